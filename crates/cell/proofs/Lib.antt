@@ -1,0 +1,5 @@
+pub mod ChooseLaws
+pub mod LeakLaws
+pub mod ProductLaws
+pub mod SampleLaws
+pub mod SignedLaws

@@ -1,0 +1,19 @@
+-- The laws of a measured number at this number's limits. Assumes nothing.
+use mathlib.Core.Path.{ap, _∙_}
+use borrow.Author.Needs.{needs}
+use Rattle.cell.specs.Sample.{measured}
+use Rattle.cell.proofs.SignedLaws.{narrow}
+use Rattle.cell.proofs.SampleLaws.{measured-number, measured-value}
+use Rattle.cell.proofs.sample.measured_voltage.Statement.{statement}
+use Rattle.cell.proofs.sample.measured_voltage.Tie as tie
+
+within-limits-requires : tie.Need-within-limits-requires
+within-limits-requires c κs = search needs
+
+returns : tie.Need-returns
+returns c =
+    let e = c .within-limits .ensures ∙ ap (measured 2_600 4_500) (narrow _ (c .before .fits .v)) in
+    (measured-number 4 2_600 4_500 _ _ e, measured-value 2_600 4_500 _ _ e)
+
+pub measured-voltage-spec : {M : Type 1} → statement M
+measured-voltage-spec = tie.close (tie.spec within-limits-requires returns)

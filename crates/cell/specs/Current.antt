@@ -1,0 +1,22 @@
+-- The counted current of "A window" in paper 01. Definitions only; assumes nothing.
+use mathlib.Core.Bool.{true, false}
+use Prim.Native.Nat.{ℕ}
+use lib.Dec.{leb}
+use Rattle.cell.specs.Choose.{choose}
+use Rattle.cell.specs.declared.current.Current.{Current}
+
+-- c is 0
+abbrev pub noCurrent : Current
+noCurrent = record { charging = false; magnitude = 0 }
+
+-- "Counted current c is 0 if |a| ≤ DMF, else a."
+unfoldable pub counted : ℕ → Current → Current
+counted dmf a = choose (leb (a .magnitude) dmf) noCurrent a
+
+-- c where c > 0, else 0
+unfoldable pub charge : Current → ℕ
+charge c = choose (c .charging) (c .magnitude) 0
+
+-- |c| where c < 0, else 0
+unfoldable pub discharge : Current → ℕ
+discharge c = choose (c .charging) 0 (c .magnitude)

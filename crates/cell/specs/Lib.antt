@@ -1,0 +1,11 @@
+pub mod Choose
+pub mod Compensation
+pub mod Configuration
+pub mod Current
+pub mod Examples
+pub mod Grains
+pub mod Leak
+pub mod Learning
+pub mod Run
+pub mod Sample
+pub mod Signed
