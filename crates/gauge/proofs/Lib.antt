@@ -1,0 +1,3 @@
+pub mod CommandLaws
+pub mod ElementLaws
+pub mod RestLaws

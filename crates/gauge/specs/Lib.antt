@@ -1,0 +1,13 @@
+pub mod Accepted
+pub mod Answer
+pub mod Calls
+pub mod Charge
+pub mod Command
+pub mod Ending
+pub mod Full
+pub mod Host
+pub mod Obey
+pub mod Opening
+pub mod Rest
+pub mod Shown
+pub mod Window

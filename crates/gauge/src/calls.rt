@@ -1,0 +1,136 @@
+// The calls on a gauge value: a window, a rest and a host write. 14 is tested first, then the refusals in the paper's order.
+ghost use mathlib.Core.Path.{_≡_};
+ghost use Rattle.gauge.specs.Calls as Spec;
+use crate::answer::Answer;
+use crate::command::decide;
+use crate::command::decision_number;
+use crate::host::Host;
+use crate::state::Gauge;
+use cell::configuration::dmf;
+use cell::sample::Measured;
+use cell::sample::Sensed;
+use cell::sample::measured_temperature;
+use cell::sample::measured_voltage;
+use cell::sample::sensed_current;
+
+impl Host {
+    // A byte at MODE (1), AR low (2) or AR high (3).
+    pub fn stored(self, address: u32, value: u8) -> Host
+        ensures { λ r. ⌜ r ≡ Spec.stored address value self ⌝ }
+    {
+        let mode = self.mode;
+        let ar = self.ar;
+        if address == 1 {
+            return Host { mode: value, ar };
+        }
+        if address == 2 {
+            return Host {
+                mode,
+                ar: ar / 256 * 256 + value as u16,
+            };
+        }
+        Host {
+            mode,
+            ar: 256 * (value as u16) + ar % 256,
+        }
+    }
+}
+
+impl Gauge {
+    // A window: current, voltage and temperature as handed in.
+    pub fn window(self, a: i32, v: i32, t: i32) -> Answer
+        ensures { λ r. ⌜ r ≡ Spec.windowAnswer self a v t ⌝ }
+    {
+        let gauge = self;
+        if !gauge.accepted() {
+            return Answer { number: 14, gauge };
+        }
+        let Sensed::Within(current) = sensed_current(a) else {
+            return Answer { number: 3, gauge };
+        };
+        let Measured::Within(voltage) = measured_voltage(v) else {
+            return Answer { number: 4, gauge };
+        };
+        let Measured::Within(temperature) = measured_temperature(t) else {
+            return Answer { number: 5, gauge };
+        };
+        let configuration = gauge.configuration;
+        let counted = current.counted(dmf(configuration));
+        let next = gauge.stepped(counted, voltage, temperature);
+        Answer {
+            number: 0,
+            gauge: next,
+        }
+    }
+
+    // A rest of a number of windows.
+    pub fn rest(self, windows: u32, t: i32) -> Answer
+        ensures { λ r. ⌜ r ≡ Spec.restAnswer self windows t ⌝ }
+    {
+        let gauge = self;
+        if !gauge.accepted() {
+            return Answer { number: 14, gauge };
+        }
+        if windows == 0 {
+            return Answer { number: 6, gauge };
+        }
+        if 16_875 < windows {
+            return Answer { number: 6, gauge };
+        }
+        let Measured::Within(temperature) = measured_temperature(t) else {
+            return Answer { number: 5, gauge };
+        };
+        let next = gauge.rested(windows, temperature);
+        Answer {
+            number: 0,
+            gauge: next,
+        }
+    }
+
+    // A host write of one byte.
+    pub fn write(self, address: u32, value: u8) -> Answer
+        ensures { λ r. ⌜ r ≡ Spec.writeAnswer self address value ⌝ }
+    {
+        let gauge = self;
+        if !gauge.accepted() {
+            return Answer { number: 14, gauge };
+        }
+        if 3 < address {
+            return Answer { number: 7, gauge };
+        }
+        if address == 0 {
+            return gauge.keyed(value);
+        }
+        let configuration = gauge.configuration;
+        let charge = gauge.charge;
+        let shown = gauge.shown;
+        let host = gauge.host.stored(address, value);
+        let next = Gauge {
+            configuration,
+            charge,
+            shown,
+            host,
+        };
+        Answer {
+            number: 0,
+            gauge: next,
+        }
+    }
+
+    // A key at CTRL.
+    fn keyed(self, key: u8) -> Answer
+        ensures { λ r. ⌜ r ≡ Spec.keyAnswer self key ⌝ }
+    {
+        let gauge = self;
+        let decision = decide(key, gauge.host.mode);
+        let number = decision_number(decision, gauge.host.ar);
+        if number == 0 {
+            let next = gauge.obeyed(decision);
+            return Answer {
+                number: 0,
+                gauge: next,
+            };
+        }
+        Answer { number, gauge }
+    }
+}
