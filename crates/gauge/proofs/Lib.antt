@@ -1,3 +1,5 @@
+pub mod AcceptedLaws
+pub mod BoolLaws
 pub mod CommandLaws
 pub mod ElementLaws
 pub mod RestLaws

@@ -19,7 +19,7 @@ runAccepted run = not (passes (run .dcr)) && (run .vdq || eqb (run .dcr) 0)
 
 -- "LMD > 0, h ≤ LMD × G"
 unfoldable pub chargeAccepted : Charge → Bool
-chargeAccepted x = not (eqb (x .lmd) 0) && leb (x .held) (grainsOfCounts (x .lmd)) && runAccepted (x .run)
+chargeAccepted x = not (eqb (x .lmd) 0) && (leb (x .held) (grainsOfCounts (x .lmd)) && runAccepted (x .run))
 
 -- "c in range and 0 or beyond DMF", "CHGS exactly if c > 0"
 unfoldable pub currentAccepted : ℕ → Current → Bool
@@ -34,11 +34,10 @@ zeroOrBetween least most x = eqb x 0 || (leb least x && leb x most)
 unfoldable pub shownAccepted : List ℕ → Shown → Bool
 shownAccepted configuration s =
     leb (s .standby) (2 * s0 configuration)
-    && currentAccepted (dmf configuration) (s .current)
-    && zeroOrBetween 2_600 4_500 (s .voltage)
-    && zeroOrBetween 1_012 1_372 (s .temperature)
+    && (currentAccepted (dmf configuration) (s .current)
+    && (zeroOrBetween 2_600 4_500 (s .voltage) && zeroOrBetween 1_012 1_372 (s .temperature)))
 
 -- "ILMD > 0", and the rest
 unfoldable pub accepted : Gauge → Bool
 accepted g =
-    not (eqb (ilmd (g .configuration)) 0) && chargeAccepted (g .charge) && shownAccepted (g .configuration) (g .shown)
+    not (eqb (ilmd (g .configuration)) 0) && (chargeAccepted (g .charge) && shownAccepted (g .configuration) (g .shown))

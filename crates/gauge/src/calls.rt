@@ -15,7 +15,7 @@ use cell::sample::sensed_current;
 
 impl Host {
     // A byte at MODE (1), AR low (2) or AR high (3).
-    pub fn stored(self, address: u32, value: u8) -> Host
+    pub(crate) fn stored(self, address: u32, value: u8) -> Host
         ensures { λ r. ⌜ r ≡ Spec.stored address value self ⌝ }
     {
         let mode = self.mode;

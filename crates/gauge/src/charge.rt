@@ -22,7 +22,7 @@ pub struct Charge {
 
 impl Charge {
     // The leak of one window.
-    pub fn leaked(self, rate: u16) -> Charge
+    pub(crate) fn leaked(self, rate: u16) -> Charge
         ensures { λ r. ⌜ r ≡ Spec.leaked rate self ⌝ }
     {
         let grains = leak(self.held, rate);
@@ -36,7 +36,7 @@ impl Charge {
     }
 
     // The counted current of one window.
-    pub fn moved(self, current: Current) -> Charge
+    pub(crate) fn moved(self, current: Current) -> Charge
         ensures { λ r. ⌜ r ≡ Spec.moved current self ⌝ }
     {
         let drawn = grains_of_current(current.discharge());
@@ -53,7 +53,7 @@ impl Charge {
     }
 
     // Full.
-    pub fn filled(self) -> Charge
+    pub(crate) fn filled(self) -> Charge
         ensures { λ r. ⌜ r ≡ Spec.filled self ⌝ }
     {
         let held = grains_of_counts(self.lmd);
@@ -66,7 +66,7 @@ impl Charge {
     }
 
     // Full, if the window is full.
-    pub fn filled_if(self, full: bool) -> Charge
+    pub(crate) fn filled_if(self, full: bool) -> Charge
         ensures { λ r. ⌜ r ≡ Spec.filledIf full self ⌝ }
     {
         if full {
@@ -76,7 +76,7 @@ impl Charge {
     }
 
     // What the end-of-discharge voltages make of a window.
-    pub fn ended(self, ending: Ending) -> Charge
+    pub(crate) fn ended(self, ending: Ending) -> Charge
         ensures { λ r. ⌜ r ≡ Spec.ended ending self ⌝ }
     {
         let run = Run::none();

@@ -19,7 +19,7 @@ pub enum Ending {
 }
 
 // "t ≥ 4 × (273 + TOFF) and IAV > 2 × S0".
-pub fn may_teach(configuration: Configuration, discharge: u16, temperature: u16) -> bool
+pub(crate) fn may_teach(configuration: Configuration, discharge: u16, temperature: u16) -> bool
     ensures { λ r. ⌜ r ≡ Spec.mayTeach configuration discharge temperature ⌝ }
 {
     if temperature < cold_threshold(configuration) {
@@ -28,7 +28,7 @@ pub fn may_teach(configuration: Configuration, discharge: u16, temperature: u16)
     2 * (s0(configuration) as u32) < discharge as u32
 }
 
-pub fn ending_of(
+pub(crate) fn ending_of(
     configuration: Configuration,
     vdq: bool,
     discharge: u16,

@@ -6,7 +6,7 @@ use cell::configuration::taper;
 use cell::current::Current;
 use cell::grains::grains_of_counts;
 
-pub fn is_full(
+pub(crate) fn is_full(
     configuration: Configuration,
     current: Current,
     voltage: u16,

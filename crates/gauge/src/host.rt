@@ -8,14 +8,14 @@ pub struct Host {
 }
 
 // MODE with INIT (bit 2) cleared.
-pub fn init_cleared(mode: u8) -> u8
+pub(crate) fn init_cleared(mode: u8) -> u8
     ensures { λ r. ⌜ r ≡ Spec.initCleared mode ⌝ }
 {
     mode / 8 * 8 + mode % 4
 }
 
 // MODE with its command bits 5, 4, 3, 1 and 0 cleared.
-pub fn commands_cleared(mode: u8) -> u8
+pub(crate) fn commands_cleared(mode: u8) -> u8
     ensures { λ r. ⌜ r ≡ Spec.commandsCleared mode ⌝ }
 {
     mode / 64 * 64 + mode / 4 % 2 * 4
@@ -23,7 +23,7 @@ pub fn commands_cleared(mode: u8) -> u8
 
 impl Host {
     // A full window clears INIT.
-    pub fn full_if(self, full: bool) -> Host
+    pub(crate) fn full_if(self, full: bool) -> Host
         ensures { λ r. ⌜ r ≡ Spec.fullIf full self ⌝ }
     {
         if full {

@@ -26,7 +26,7 @@ fn lesser(a: u64, b: u64) -> u64
 
 impl Charge {
     // WRTNAC.
-    pub fn written_nac(self, ar: u16) -> Charge
+    pub(crate) fn written_nac(self, ar: u16) -> Charge
         ensures { λ r. ⌜ r ≡ Spec.writtenNac ar self ⌝ }
     {
         let held = lesser(grains_of_counts(ar), grains_of_counts(self.lmd));
@@ -39,7 +39,7 @@ impl Charge {
     }
 
     // WRTLMD.
-    pub fn written_lmd(self, ar: u16) -> Charge
+    pub(crate) fn written_lmd(self, ar: u16) -> Charge
         ensures { λ r. ⌜ r ≡ Spec.writtenLmd ar self ⌝ }
     {
         let held = lesser(self.held, grains_of_counts(ar));
@@ -48,7 +48,7 @@ impl Charge {
     }
 
     // The run ended, all else kept: PRST.
-    pub fn without_run(self) -> Charge
+    pub(crate) fn without_run(self) -> Charge
         ensures { λ r. ⌜ r ≡ Spec.withoutRun self ⌝ }
     {
         let run = Run::none();
@@ -59,7 +59,7 @@ impl Charge {
         }
     }
 
-    pub fn obeyed(self, decision: Decision, configuration: Configuration, ar: u16) -> Charge
+    pub(crate) fn obeyed(self, decision: Decision, configuration: Configuration, ar: u16) -> Charge
         ensures { λ r. ⌜ r ≡ Spec.chargeObeyed decision configuration ar self ⌝ }
     {
         match decision {
@@ -76,7 +76,7 @@ impl Charge {
 }
 
 impl Shown {
-    pub fn obeyed(self, decision: Decision, configuration: Configuration) -> Shown
+    pub(crate) fn obeyed(self, decision: Decision, configuration: Configuration) -> Shown
         ensures { λ r. ⌜ r ≡ Spec.shownObeyed decision configuration self ⌝ }
     {
         match decision {
@@ -119,7 +119,7 @@ impl Host {
 }
 
 impl Gauge {
-    pub fn obeyed(self, decision: Decision) -> Gauge
+    pub(crate) fn obeyed(self, decision: Decision) -> Gauge
         ensures { λ r. ⌜ r ≡ Spec.obeyed decision self ⌝ }
     {
         let configuration = self.configuration;

@@ -15,7 +15,7 @@ use cell::configuration::s0;
 use cell::current::Current;
 use cell::run::Run;
 
-pub fn opened_charge(configuration: Configuration) -> Charge
+pub(crate) fn opened_charge(configuration: Configuration) -> Charge
     ensures { λ r. ⌜ r ≡ Spec.openedCharge configuration ⌝ }
 {
     let lmd = design_capacity(configuration);
@@ -24,7 +24,7 @@ pub fn opened_charge(configuration: Configuration) -> Charge
 }
 
 // The sample, SI and the flags as opened, but CI as it is given.
-pub fn opened_shown(configuration: Configuration, ci: bool) -> Shown
+pub(crate) fn opened_shown(configuration: Configuration, ci: bool) -> Shown
     ensures { λ r. ⌜ r ≡ Spec.openedShown configuration ci ⌝ }
 {
     let current = Current::none();
@@ -40,14 +40,14 @@ pub fn opened_shown(configuration: Configuration, ci: bool) -> Shown
     }
 }
 
-pub fn opened_host(configuration: Configuration) -> Host
+pub(crate) fn opened_host(configuration: Configuration) -> Host
     ensures { λ r. ⌜ r ≡ Spec.openedHost configuration ⌝ }
 {
     let mode = opened_mode(configuration);
     Host { mode, ar: 0 }
 }
 
-pub fn opened(configuration: Configuration) -> Gauge
+pub(crate) fn opened(configuration: Configuration) -> Gauge
     ensures { λ r. ⌜ r ≡ Spec.opened configuration ⌝ }
 {
     let charge = opened_charge(configuration);

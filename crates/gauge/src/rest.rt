@@ -10,7 +10,7 @@ use cell::leak::leak_rate;
 
 impl Charge {
     // One window of a rest: the leak, and the passing rule.
-    pub fn rested_once(self, rate: u16) -> Charge
+    pub(crate) fn rested_once(self, rate: u16) -> Charge
         ensures { λ r. ⌜ r ≡ Spec.restedOnce rate self ⌝ }
     {
         let leaked = self.leaked(rate);
@@ -23,7 +23,7 @@ impl Charge {
     }
 
     // n windows of a rest. The rate is the same in each.
-    pub fn rested(self, windows: u32, rate: u16) -> Charge
+    pub(crate) fn rested(self, windows: u32, rate: u16) -> Charge
         ensures { λ r. ⌜ r ≡ Spec.rested windows rate self ⌝ }
     {
         let mut charge = self;
@@ -38,7 +38,7 @@ impl Charge {
 
 impl Shown {
     // No current flows in a rest; VOLT and the rest stay.
-    pub fn rested(self, temperature: u16) -> Shown
+    pub(crate) fn rested(self, temperature: u16) -> Shown
         ensures { λ r. ⌜ r ≡ Spec.shownRested temperature self ⌝ }
     {
         let current = Current::none();
@@ -55,7 +55,7 @@ impl Shown {
 }
 
 impl Gauge {
-    pub fn rested(self, windows: u32, temperature: u16) -> Gauge
+    pub(crate) fn rested(self, windows: u32, temperature: u16) -> Gauge
         ensures { λ r. ⌜ r ≡ Spec.rest windows temperature self ⌝ }
     {
         let configuration = self.configuration;

@@ -20,7 +20,7 @@ pub struct Shown {
 
 impl Shown {
     // A sample.
-    pub fn measured(self, current: Current, voltage: u16, temperature: u16) -> Shown
+    pub(crate) fn measured(self, current: Current, voltage: u16, temperature: u16) -> Shown
         ensures { λ r. ⌜ r ≡ Spec.measured current voltage temperature self ⌝ }
     {
         Shown {
@@ -35,7 +35,7 @@ impl Shown {
     }
 
     // Charging clears the end-of-discharge flags.
-    pub fn uncharged_flags(self) -> Shown
+    pub(crate) fn uncharged_flags(self) -> Shown
         ensures { λ r. ⌜ r ≡ Spec.unchargedFlags self ⌝ }
     {
         if self.current.charging {
@@ -45,7 +45,7 @@ impl Shown {
     }
 
     // The end-of-discharge flags, put as they are given.
-    pub fn flags(self, edv1: bool, edvf: bool) -> Shown
+    pub(crate) fn flags(self, edv1: bool, edvf: bool) -> Shown
         ensures { λ r. ⌜ r ≡ Spec.flags edv1 edvf self ⌝ }
     {
         let current = self.current;
@@ -61,7 +61,7 @@ impl Shown {
     }
 
     // CI cleared.
-    pub fn learned(self) -> Shown
+    pub(crate) fn learned(self) -> Shown
         ensures { λ r. ⌜ r ≡ Spec.learnedFlag self ⌝ }
     {
         let current = self.current;
@@ -77,7 +77,7 @@ impl Shown {
     }
 
     // What the end-of-discharge voltages make of the flags.
-    pub fn ended(self, ending: Ending) -> Shown
+    pub(crate) fn ended(self, ending: Ending) -> Shown
         ensures { λ r. ⌜ r ≡ Spec.ended ending self ⌝ }
     {
         match ending {
@@ -89,7 +89,7 @@ impl Shown {
     }
 
     // The standby current, averaged over light loads.
-    pub fn averaged(self, s0: u16) -> Shown
+    pub(crate) fn averaged(self, s0: u16) -> Shown
         ensures { λ r. ⌜ r ≡ Spec.averaged s0 self ⌝ }
     {
         let current = self.current;

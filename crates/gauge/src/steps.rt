@@ -11,7 +11,7 @@ use cell::leak::leak_rate;
 
 impl Gauge {
     // Step 1: the sample is stored, and the leak taken.
-    pub fn measured(self, current: Current, voltage: u16, temperature: u16) -> Gauge
+    pub(crate) fn measured(self, current: Current, voltage: u16, temperature: u16) -> Gauge
         ensures { λ r. ⌜ r ≡ Spec.step1 current voltage temperature self ⌝ }
     {
         let configuration = self.configuration;
@@ -28,7 +28,7 @@ impl Gauge {
     }
 
     // Step 2: the counted current is summed.
-    pub fn counted(self) -> Gauge
+    pub(crate) fn counted(self) -> Gauge
         ensures { λ r. ⌜ r ≡ Spec.step2 self ⌝ }
     {
         let configuration = self.configuration;
@@ -44,7 +44,7 @@ impl Gauge {
     }
 
     // Step 3: full. An empty stop is where the sum of step 2 stops at 0.
-    pub fn filled(self) -> Gauge
+    pub(crate) fn filled(self) -> Gauge
         ensures { λ r. ⌜ r ≡ Spec.step3 self ⌝ }
     {
         let configuration = self.configuration;
@@ -67,7 +67,7 @@ impl Gauge {
     }
 
     // Step 4: the end-of-discharge voltages.
-    pub fn ended(self) -> Gauge
+    pub(crate) fn ended(self) -> Gauge
         ensures { λ r. ⌜ r ≡ Spec.step4 self ⌝ }
     {
         let configuration = self.configuration;
@@ -91,7 +91,7 @@ impl Gauge {
     }
 
     // Step 5: the standby current.
-    pub fn averaged(self) -> Gauge
+    pub(crate) fn averaged(self) -> Gauge
         ensures { λ r. ⌜ r ≡ Spec.step5 self ⌝ }
     {
         let configuration = self.configuration;
@@ -107,7 +107,7 @@ impl Gauge {
     }
 
     // The five steps in order.
-    pub fn stepped(self, current: Current, voltage: u16, temperature: u16) -> Gauge
+    pub(crate) fn stepped(self, current: Current, voltage: u16, temperature: u16) -> Gauge
         ensures { λ r. ⌜ r ≡ Spec.window current voltage temperature self ⌝ }
     {
         self.measured(current, voltage, temperature)
