@@ -1,16 +1,17 @@
 -- Laws of the band, the weight and the leak. Assumes nothing.
-use mathlib.Core.Bool.{Bool, true, false}
+use mathlib.Core.Bool.{Bool, true, false, _&&_}
 use mathlib.Core.List.{List, [], _∷_}
 use mathlib.Core.Path.{_≡_, refl, _∙_, sym, ap}
 use mathlib.Core.Logic.{⊎-elim}
 use Prim.Native.Nat.{ℕ, zero, suc, _+_, _-_, _*_, _/_, _≤_, _<_, min}
 use native.Mathlib.Nat.{mul-le-mul, le-refl}
 use native.Mathlib.Omega.{arith}
-use lib.Dec.{leb}
+use lib.Dec.{T, leb, leb→le}
 use lib.ListN.{length, getD}
 use borrow.Author.Tests.{leb-true, leb-false}
 use Rattle.cell.specs.Choose.{choose}
 use Rattle.cell.specs.Grains.{grainsPerCount, nac}
+use Rattle.cell.proofs.ProductLaws.{product-within}
 use Rattle.cell.specs.Leak.{bandTable, bandRises, reached, band, weight, leakRate, leak}
 
 -- n temperatures from first on, 40 quarter kelvins apart
@@ -42,3 +43,30 @@ unfolding leak
 leak-within held rate h =
     let p : nac held * rate ≤ nac held * grainsPerCount = mul-le-mul (le-refl _) h in
     omega arith
+
+allWithin : ℕ → List ℕ → Bool
+allWithin most [] = true
+allWithin most (x ∷ xs) = leb x most && allWithin most xs
+
+first-passes : (a b : Bool) → T (a && b) → T a
+first-passes true b t = tt
+first-passes false b t = t
+
+rest-passes : (a b : Bool) → T (a && b) → T b
+rest-passes true b t = t
+rest-passes false b t = absurd t
+
+element-within : (most : ℕ) (xs : List ℕ) → T (allWithin most xs) → (k : ℕ) → getD xs k 0 ≤ most
+unfolding allWithin
+element-within most [] t k = omega arith
+element-within most (x ∷ xs) t zero = leb→le x most (first-passes (leb x most) (allWithin most xs) t)
+element-within most (x ∷ xs) t (suc k) = element-within most xs (rest-passes (leb x most) (allWithin most xs) t) k
+
+pub weight-within : (t : ℕ) → weight t ≤ 128
+unfolding weight allWithin
+weight-within t = element-within 128 bandTable tt (band t)
+
+-- SD has four bits
+pub leak-rate-within : (sd t : ℕ) → sd ≤ 15 → leakRate sd t ≤ 1_920
+unfolding leakRate
+leak-rate-within sd t h = product-within 15 128 h (weight-within t)

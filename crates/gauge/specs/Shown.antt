@@ -38,7 +38,16 @@ flags edv1 edvf s =
 
 -- Step 2: "If c > 0: .. EDV1, EDVF cleared"
 unfoldable pub unchargedFlags : Shown → Shown
-unchargedFlags s = choose (s .current .charging) (flags false false s) s
+unchargedFlags s =
+    record {
+      current = s .current;
+      voltage = s .voltage;
+      temperature = s .temperature;
+      standby = s .standby;
+      ci = s .ci;
+      edv1 = choose (s .current .charging) false (s .edv1);
+      edvf = choose (s .current .charging) false (s .edvf);
+    }
 
 -- Step 4: "CI cleared"
 unfoldable pub learnedFlag : Shown → Shown

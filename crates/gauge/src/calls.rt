@@ -56,10 +56,10 @@ impl Gauge {
         };
         let configuration = gauge.configuration;
         let counted = current.counted(dmf(configuration));
-        let next = gauge.stepped(counted, voltage, temperature);
+        let stepped = gauge.stepped(counted, voltage, temperature);
         Answer {
             number: 0,
-            gauge: next,
+            gauge: stepped,
         }
     }
 
@@ -80,10 +80,10 @@ impl Gauge {
         let Measured::Within(temperature) = measured_temperature(t) else {
             return Answer { number: 5, gauge };
         };
-        let next = gauge.rested(windows, temperature);
+        let rested = gauge.rested(windows, temperature);
         Answer {
             number: 0,
-            gauge: next,
+            gauge: rested,
         }
     }
 
@@ -105,7 +105,7 @@ impl Gauge {
         let charge = gauge.charge;
         let shown = gauge.shown;
         let host = gauge.host.stored(address, value);
-        let next = Gauge {
+        let written = Gauge {
             configuration,
             charge,
             shown,
@@ -113,7 +113,7 @@ impl Gauge {
         };
         Answer {
             number: 0,
-            gauge: next,
+            gauge: written,
         }
     }
 
@@ -125,10 +125,10 @@ impl Gauge {
         let decision = decide(key, gauge.host.mode);
         let number = decision_number(decision, gauge.host.ar);
         if number == 0 {
-            let next = gauge.obeyed(decision);
+            let obeyed = gauge.obeyed(decision);
             return Answer {
                 number: 0,
-                gauge: next,
+                gauge: obeyed,
             };
         }
         Answer { number, gauge }

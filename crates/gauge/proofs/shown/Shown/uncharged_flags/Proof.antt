@@ -1,6 +1,6 @@
 -- Each way returns the case that its test picks. Assumes nothing.
 use borrow.Author.Needs.{needs}
-use Rattle.gauge.specs.Shown.{unchargedFlags}
+use Rattle.gauge.specs.Shown.{flags, unchargedFlags}
 use Rattle.gauge.proofs.shown.Shown.uncharged_flags.Statement.{statement}
 use Rattle.gauge.proofs.shown.Shown.uncharged_flags.Tie as tie
 
@@ -8,7 +8,7 @@ flags-requires : tie.Need-flags-requires
 flags-requires c κs = search needs
 
 returns : tie.Need-returns
-unfolding unchargedFlags
+unfolding flags unchargedFlags
 returns c = simp (c .before .if1 .taken) (c .flags .ensures)
 
 returns-2 : tie.Need-returns-2
