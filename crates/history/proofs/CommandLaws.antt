@@ -18,7 +18,7 @@ use Rattle.gauge.specs.declared.command.Decision.the-variants.{Wrtnac, Done, Pr
 use Rattle.history.specs.History.{Drain, none, drain, History, chargeOf, commanded, natural, opened, withHost, withRun}
 use Rattle.history.proofs.DifferenceLaws.{Difference, natural-is, of-natural}
 use Rattle.history.proofs.Tracking.{Tracks, charge-difference, fixed-difference, host-free, run-free, none-sound, started-sound}
-use Rattle.history.proofs.WindowLaws.{Bounded}
+use Rattle.history.proofs.SumLaws.{Bounded}
 
 -- ---- MODE
 

@@ -1,7 +1,13 @@
 pub mod CommandLaws
 pub mod DifferenceLaws
+pub mod Following
 pub mod ListLaws
+pub mod NumberLaws
+pub mod RestFollows
 pub mod RestLaws
 pub mod ShownLaws
+pub mod SumLaws
 pub mod Tracking
+pub mod WindowFollows
 pub mod WindowLaws
+pub mod WriteFollows

@@ -15,7 +15,7 @@ use Rattle.history.specs.History.{Drain, History, chargeOf, gains, leakN
 use Rattle.history.specs.History as History
 use Rattle.history.proofs.DifferenceLaws.{Difference, of-parts, settled}
 use Rattle.history.proofs.Tracking.{Tracks, charge-difference, drained-is, passing-is, kept-sound}
-use Rattle.history.proofs.WindowLaws.{Bounded, leak-is, leak-most, drain-most}
+use Rattle.history.proofs.SumLaws.{Bounded, drain-most, leak-is, leak-most}
 
 module _ (y : Charge) (x : History) (k : Tracks y x) (b : Bounded y) (rate : ℕ) (low : rate ≤ 1_920) where
   rested-difference : Difference (chargeOf (History.restedOnce rate x)) (y .held) (leak (y .held) rate)
