@@ -20,6 +20,7 @@ use Rattle.gauge.specs.Opening.{opened, openAnswer, openRefusal, openedHost}
 use Rattle.gauge.specs.Rest.{rest}
 use Rattle.gauge.specs.Window.{step1, step2, step3, step4, step5, window}
 use Rattle.gauge.specs.declared.state.Gauge.{Gauge}
+use Rattle.registers.specs.Reading.{placeRefusal}
 use Rattle.history.specs.Call.{Call, after, stepped}
 use Rattle.history.specs.Call as Call
 use Rattle.history.specs.Claim.{Agrees, Demand3}
@@ -63,7 +64,11 @@ step-follows (Call.write address value) g x f =
         → Follows (choose s (written address (value .number) g) g) (choose s (History.written (g .configuration) address (value .number) x) x)
     go true e = written-follows g x address value f (write-alike g x address (value .number) f ∙ eqb-true (writeRefusal (x .mode) (x .ar) address (value .number)) 0 e)
     go false e = f
-step-follows (Call.read address count place replyLength) g x f = f
+step-follows (Call.read address count place replyLength) g x f = go (eqb (placeRefusal address count place replyLength) 0)
+  where
+    go : (s : Bool) → Follows g (choose s x x)
+    go true = f
+    go false = f
 
 kept-choice : (t : Bool) (a b : Gauge) (c : List ℕ) → a .configuration ≡ c → b .configuration ≡ c → (choose t a b) .configuration ≡ c
 kept-choice true a b c p q = p

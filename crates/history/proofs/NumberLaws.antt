@@ -1,7 +1,7 @@
 -- A call yields the number that the history gives, and that is never 14. Assumes nothing.
-use mathlib.Core.Bool.{Bool, true, false}
+use mathlib.Core.Bool.{Bool, _||_, false, true}
 use mathlib.Core.Path.{_≡_, refl, ap, _∙_}
-use Prim.Native.Nat.{ℕ}
+use Prim.Native.Nat.{ℕ, _+_}
 use native.Mathlib.Omega.{arith}
 use lib.Dec.{eqb, ltb}
 use Rattle.cell.specs.Choose.{choose}
@@ -14,6 +14,7 @@ use Rattle.gauge.specs.Window.{window}
 use Rattle.gauge.specs.declared.command.Decision.{Decision}
 use Rattle.gauge.specs.declared.command.Decision.the-variants.{Wrtnac, Done, Prst, Frst, Wrtlmd, UnknownKey, NoCommandBit, NotCarried}
 use Rattle.gauge.specs.declared.state.Gauge.{Gauge}
+use Rattle.registers.specs.Reading.{placeRefusal, readRefusal}
 use Rattle.history.specs.Call.{Call, numberOf}
 use Rattle.history.specs.Call as Call
 use Rattle.history.specs.History.{History, refusalOf}
@@ -43,11 +44,11 @@ write-alike g x address value f =
     ∙ ap (λ (n : ℕ). choose (ltb 3 address) 7 (choose (eqb address 0) (decisionNumber (decide value (x .mode)) n) 0)) (f .ar)
 
 pub numbers-alike : (call : Call) (g : Gauge) (x : History) → Follows g x → numberOf call g ≡ refusalOf call x
-unfolding numberOf refusalOf windowAnswer restAnswer writeAnswer
+unfolding numberOf refusalOf windowAnswer restAnswer writeAnswer readRefusal
 numbers-alike (Call.window a v t) g x f = rw (follows-accepted g x f)
 numbers-alike (Call.rest n t) g x f = rw (follows-accepted g x f)
 numbers-alike (Call.write address value) g x f = rw (follows-accepted g x f) (write-alike g x address (value .number) f)
-numbers-alike (Call.read address count place replyLength) g x f = refl
+numbers-alike (Call.read address count place replyLength) g x f = rw (follows-accepted g x f)
 
 -- ---- 14 never arises
 
@@ -82,11 +83,17 @@ write-never true u n h e = omega arith
 write-never false true n h e = h e
 write-never false false n h e = omega arith
 
+read-never : (t u : Bool) → orElse (choose t 12 0) (choose u 13 0) ≡ 14 → ⊥
+read-never true u e = omega arith
+read-never false true e = omega arith
+read-never false false e = omega arith
+
 pub never-14 : (call : Call) (x : History) → refusalOf call x ≡ 14 → ⊥
-unfolding refusalOf writeRefusal
+unfolding refusalOf writeRefusal placeRefusal
 never-14 (Call.window a v t) x e = sample-never (currentInRange a) (voltageInRange v) (temperatureInRange t) e
 never-14 (Call.rest n t) x e = rest-never (restLength n) (temperatureInRange t) e
 never-14 (Call.write address value) x e =
     write-never (ltb 3 address) (eqb address 0) (decisionNumber (decide (value .number) (x .mode)) (x .ar))
     (decision-never (decide (value .number) (x .mode)) (x .ar)) e
-never-14 (Call.read address count place replyLength) x e = omega arith
+never-14 (Call.read address count place replyLength) x e =
+    read-never (eqb count 0 || ltb 128 (address + count)) (ltb replyLength (place + count)) e

@@ -5,6 +5,7 @@ use Prim.Native.Nat.{ℕ, _<_}
 use lib.IntN.{ℤ}
 use Rattle.gauge.specs.Calls.{restAnswer, windowAnswer, writeAnswer}
 use Rattle.gauge.specs.declared.state.Gauge.{Gauge}
+use Rattle.registers.specs.Reading.{readRefusal}
 
 -- what a `u8` holds
 pub record Byte : Type 0 where
@@ -17,7 +18,7 @@ pub data Call : Type 0 where
   write : (address : ℕ) (value : Byte) → Call
   read : (address count place replyLength : ℕ) → Call
 
--- the gauge that a call leaves
+-- the gauge that a call leaves; a read hands none back
 unfoldable pub stepped : Call → Gauge → Gauge
 stepped (window a v t) g = (windowAnswer g a v t) .gauge
 stepped (rest n t) g = (restAnswer g n t) .gauge
@@ -29,7 +30,7 @@ unfoldable pub numberOf : Call → Gauge → ℕ
 numberOf (window a v t) g = (windowAnswer g a v t) .number
 numberOf (rest n t) g = (restAnswer g n t) .number
 numberOf (write address value) g = (writeAnswer g address (value .number)) .number
-numberOf (read address count place replyLength) g = 0
+numberOf (read address count place replyLength) g = readRefusal g address count place replyLength
 
 -- the gauge that a list of calls leaves, the first call first
 unfoldable pub after : List Call → Gauge → Gauge

@@ -24,6 +24,7 @@ use Rattle.gauge.specs.declared.command.Decision.{Decision}
 use Rattle.gauge.specs.declared.command.Decision.the-variants.{Wrtnac, Done, Prst, Frst, Wrtlmd, UnknownKey, NoCommandBit, NotCarried}
 use Rattle.gauge.specs.declared.ending.Ending.{Ending}
 use Rattle.gauge.specs.declared.ending.Ending.the-variants.{Above, Edvf, Edv1, Qualified}
+use Rattle.registers.specs.Reading.{placeRefusal}
 use Rattle.history.specs.Call.{Call, window, rest, write, read}
 
 -- "a run with its drain R or no run"
@@ -205,7 +206,7 @@ unfoldable pub refusalOf : Call → History → ℕ
 refusalOf (window a v t) x = sampleRefusal a v t
 refusalOf (rest n t) x = restRefusal n t
 refusalOf (write address value) x = writeRefusal (x .mode) (x .ar) address (value .number)
-refusalOf (read address count place replyLength) x = 0
+refusalOf (read address count place replyLength) x = placeRefusal address count place replyLength
 
 unfoldable pub worked : List ℕ → Call → History → History
 worked configuration (window a v t) x =

@@ -1,0 +1,5 @@
+// The registers: what each shows, the map, and a read into the host's reply. Stands on the crates cell and gauge.
+mod map;
+pub mod read;
+mod times;
+mod values;

@@ -1,0 +1,142 @@
+// The map of "Registers", by pairs of addresses: of all that is shown, only the pair asked for is computed.
+ghost use mathlib.Core.Bool.{true};
+ghost use mathlib.Core.Path.{_≡_};
+ghost use Prim.Native.Nat.{_+_, _*_, _≤_, _<_};
+ghost use lib.ListN.{getD};
+ghost use Rattle.gauge.specs.Accepted.{accepted};
+ghost use Rattle.registers.specs.Map as Spec;
+use crate::times::artte;
+use crate::times::stte;
+use crate::times::tte;
+use crate::times::ttf;
+use crate::values::cac;
+use crate::values::fcac;
+use crate::values::flags;
+use crate::values::nac;
+use crate::values::rsoc;
+use cell::configuration::Configuration;
+use cell::configuration::e1;
+use gauge::state::Gauge;
+
+// "pairs stand low byte first".
+fn pair_of(low: u8, high: u8) -> u16
+    ensures { λ r. ⌜ r ≡ low + 256 * high ⌝ }
+{
+    low as u16 + 256 * high as u16
+}
+
+// 0x00 to 0x09: CTRL, which "always reads 0", MODE, AR, ARTTE, TEMP and VOLT.
+fn host_pair(gauge: Gauge, pair: u32) -> u16
+    requires { ⌜ (accepted gauge ≡ true) × (pair < 5) ⌝ }
+    ensures { λ r. ⌜ r ≡ Spec.pairAt gauge pair ⌝ }
+{
+    if pair == 0 {
+        return pair_of(0, gauge.host.mode);
+    }
+    if pair == 1 {
+        return gauge.host.ar;
+    }
+    if pair == 2 {
+        return artte(gauge);
+    }
+    if pair == 3 {
+        return gauge.shown.temperature;
+    }
+    gauge.shown.voltage
+}
+
+// 0x0A to 0x13: FLAGS, RSOC, NAC, LMD, CAC and FCAC.
+fn capacity_pair(gauge: Gauge, pair: u32) -> u16
+    requires { ⌜ (accepted gauge ≡ true) × (5 ≤ pair) × (pair < 10) ⌝ }
+    ensures { λ r. ⌜ r ≡ Spec.pairAt gauge pair ⌝ }
+{
+    if pair == 5 {
+        return pair_of(flags(gauge), rsoc(gauge));
+    }
+    if pair == 6 {
+        return nac(gauge);
+    }
+    if pair == 7 {
+        return gauge.charge.lmd;
+    }
+    if pair == 8 {
+        return cac(gauge);
+    }
+    fcac(gauge)
+}
+
+// 0x14 to 0x1D: IAV, TTE, TTF, SI and STTE.
+fn current_pair(gauge: Gauge, pair: u32) -> u16
+    requires { ⌜ (accepted gauge ≡ true) × (10 ≤ pair) × (pair < 15) ⌝ }
+    ensures { λ r. ⌜ r ≡ Spec.pairAt gauge pair ⌝ }
+{
+    if pair == 10 {
+        return gauge.shown.current.magnitude;
+    }
+    if pair == 11 {
+        return tte(gauge);
+    }
+    if pair == 12 {
+        return ttf(gauge);
+    }
+    if pair == 13 {
+        return gauge.shown.standby;
+    }
+    stte(gauge)
+}
+
+fn configuration_byte(configuration: Configuration, at: usize) -> u8
+    requires { ⌜ at < 10 ⌝ }
+    ensures { λ r. ⌜ r ≡ getD configuration at 0 ⌝ }
+{
+    configuration[at]
+}
+
+// 0x76 to 0x7F.
+fn configuration_pair(gauge: Gauge, pair: u32) -> u16
+    requires { ⌜ (59 ≤ pair) × (pair < 64) ⌝ }
+    ensures { λ r. ⌜ r ≡ Spec.pairAt gauge pair ⌝ }
+{
+    let configuration = gauge.configuration;
+    let at = 2 * (pair - 59) as usize;
+    pair_of(
+        configuration_byte(configuration, at),
+        configuration_byte(configuration, at + 1),
+    )
+}
+
+// The registers 2n and 2n + 1; "other bytes to 0x7F are 0".
+fn pair_at(gauge: Gauge, pair: u32) -> u16
+    requires { ⌜ (accepted gauge ≡ true) × (pair < 64) ⌝ }
+    ensures { λ r. ⌜ r ≡ Spec.pairAt gauge pair ⌝ }
+{
+    if pair < 5 {
+        return host_pair(gauge, pair);
+    }
+    if pair < 10 {
+        return capacity_pair(gauge, pair);
+    }
+    if pair < 15 {
+        return current_pair(gauge, pair);
+    }
+    if pair == 16 {
+        let configuration = gauge.configuration;
+        return e1(configuration);
+    }
+    if pair < 59 {
+        return 0;
+    }
+    configuration_pair(gauge, pair)
+}
+
+// The byte at an address.
+pub(crate) fn register(gauge: Gauge, address: u32) -> u8
+    requires { ⌜ (accepted gauge ≡ true) × (address < 128) ⌝ }
+    ensures { λ r. ⌜ r ≡ Spec.register gauge address ⌝ }
+{
+    let pair = pair_at(gauge, address / 2);
+    if address % 2 == 0 {
+        return (pair % 256) as u8;
+    }
+    (pair / 256) as u8
+}
