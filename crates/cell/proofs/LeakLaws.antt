@@ -11,6 +11,7 @@ use lib.ListN.{length, getD}
 use borrow.Author.Tests.{leb-true, leb-false}
 use Rattle.cell.specs.Choose.{choose}
 use Rattle.cell.specs.Grains.{grainsPerCount, nac}
+use Rattle.cell.proofs.EveryLaws.{first-passes, rest-passes}
 use Rattle.cell.proofs.ProductLaws.{product-within}
 use Rattle.cell.specs.Leak.{bandTable, bandRises, reached, band, weight, leakRate, leak}
 
@@ -47,14 +48,6 @@ leak-within held rate h =
 allWithin : ℕ → List ℕ → Bool
 allWithin most [] = true
 allWithin most (x ∷ xs) = leb x most && allWithin most xs
-
-first-passes : (a b : Bool) → T (a && b) → T a
-first-passes true b t = tt
-first-passes false b t = t
-
-rest-passes : (a b : Bool) → T (a && b) → T b
-rest-passes true b t = t
-rest-passes false b t = absurd t
 
 element-within : (most : ℕ) (xs : List ℕ) → T (allWithin most xs) → (k : ℕ) → getD xs k 0 ≤ most
 unfolding allWithin

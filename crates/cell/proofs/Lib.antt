@@ -1,4 +1,5 @@
 pub mod ChooseLaws
+pub mod EveryLaws
 pub mod ExampleLaws
 pub mod LeakLaws
 pub mod ProductLaws

@@ -4,12 +4,12 @@ use mathlib.Core.Bool.{Bool, true, false, _&&_, _||_}
 use mathlib.Core.List.{List, [], _∷_}
 use mathlib.Core.Path.{_≡_, refl, sym, ap, _∙_}
 use Prim.Native.Nat.{ℕ, zero, suc, _+_, _-_, _*_, _≤_, _<_}
-use native.Mathlib.Nat.{not-suc-le-zero, le-of-suc-le-suc}
 use native.Mathlib.Omega.{arith}
 use lib.Dec.{T, eqb, leb, ltb, eqb→eq}
 use lib.ListN.{getD}
 use borrow.Author.Tests.{le-ltb, ne-eqb}
 use Rattle.cell.specs.Choose.{choose}
+use Rattle.cell.proofs.EveryLaws.{at-each-below, everyBelow}
 use Rattle.gauge.specs.declared.state.Gauge.{Gauge}
 use Rattle.registers.specs.Map.{Row, byteAt, rows, lookUp, register, pairAt}
 
@@ -45,31 +45,12 @@ configuration-shown g (suc (suc (suc (suc (suc k))))) h = absurd (none h)
 
 -- ---- the pairs that no row covers, by one test that is computed
 
--- a test passes at every number below n
-abbrev everyBelow : ℕ → (ℕ → Bool) → Bool
-everyBelow zero test = true
-everyBelow (suc n) test = test zero && everyBelow n (λ k. test (suc k))
-
-left : (a b : Bool) → T (a && b) → T a
-left true b t = tt
-left false b t = t
-
-right : (a b : Bool) → T (a && b) → T b
-right true b t = t
-right false b t = absurd t
-
-below : (n : ℕ) (test : ℕ → Bool) → T (everyBelow n test) → (k : ℕ) → k < n → T (test k)
-below zero test t k h = absurd (not-suc-le-zero h)
-below (suc n) test t zero h = left (test zero) (everyBelow n (λ j. test (suc j))) t
-below (suc n) test t (suc k) h =
-    below n (λ j. test (suc j)) (right (test zero) (everyBelow n (λ j. test (suc j))) t) k (le-of-suc-le-suc h)
-
 zeroUnlessCovered : Gauge → ℕ → Bool
 zeroUnlessCovered g n = ltb n 15 || (eqb n 16 || eqb (pairAt g n) 0)
 
 uncovered : (g : Gauge) (n : ℕ) → n < 59 → T (zeroUnlessCovered g n)
 unfolding zeroUnlessCovered register lookUp rows
-uncovered g n h = below 59 (zeroUnlessCovered g) tt n h
+uncovered g n h = at-each-below 59 (zeroUnlessCovered g) tt n h
 
 -- 0x1E and 0x1F, and 0x22 to 0x75
 pub shows-nothing : (g : Gauge) (n : ℕ) → 15 ≤ n → (n ≡ 16 → ⊥) → n < 59 → 0 ≡ pairAt g n

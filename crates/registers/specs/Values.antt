@@ -15,10 +15,11 @@ abbrev pub flagAt : ℕ → Bool → ℕ
 flagAt weight flag = choose flag weight 0
 
 -- "FLAGS: 7 CHGS, 4 CI, 2 VDQ, 1 EDV1, 0 EDVF."
+unfoldable pub flagsByte : Bool → Bool → Bool → Bool → Bool → ℕ
+flagsByte chgs ci vdq edv1 edvf = flagAt 128 chgs + flagAt 16 ci + flagAt 4 vdq + flagAt 2 edv1 + flagAt 1 edvf
+
 unfoldable pub flags : Gauge → ℕ
-flags g =
-    flagAt 128 (g .shown .current .charging) + flagAt 16 (g .shown .ci) + flagAt 4 (g .charge .run .vdq)
-    + flagAt 2 (g .shown .edv1) + flagAt 1 (g .shown .edvf)
+flags g = flagsByte (g .shown .current .charging) (g .shown .ci) (g .charge .run .vdq) (g .shown .edv1) (g .shown .edvf)
 
 -- "RSOC = floor(100 × NAC / LMD)."
 unfoldable pub rsoc : Gauge → ℕ

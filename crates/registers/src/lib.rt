@@ -2,4 +2,4 @@
 mod map;
 pub mod read;
 mod times;
-mod values;
+pub mod values;

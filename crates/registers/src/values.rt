@@ -27,15 +27,23 @@ fn flag_at(weight: u8, flag: bool) -> u8
     0
 }
 
+// The FLAGS byte.
+pub fn flags_byte(chgs: bool, ci: bool, vdq: bool, edv1: bool, edvf: bool) -> u8
+    ensures { λ r. ⌜ r ≡ Spec.flagsByte chgs ci vdq edv1 edvf ⌝ }
+{
+    flag_at(128, chgs) + flag_at(16, ci) + flag_at(4, vdq) + flag_at(2, edv1) + flag_at(1, edvf)
+}
+
 pub(crate) fn flags(gauge: Gauge) -> u8
     ensures { λ r. ⌜ r ≡ Spec.flags gauge ⌝ }
 {
-    let chgs = flag_at(128, gauge.shown.current.charging);
-    let ci = flag_at(16, gauge.shown.ci);
-    let vdq = flag_at(4, gauge.charge.run.vdq);
-    let edv1 = flag_at(2, gauge.shown.edv1);
-    let edvf = flag_at(1, gauge.shown.edvf);
-    chgs + ci + vdq + edv1 + edvf
+    flags_byte(
+        gauge.shown.current.charging,
+        gauge.shown.ci,
+        gauge.charge.run.vdq,
+        gauge.shown.edv1,
+        gauge.shown.edvf,
+    )
 }
 
 // A part of a whole in hundredths, floored.

@@ -1,0 +1,51 @@
+-- The sum of the five flags, each at its bit. Assumes nothing.
+use borrow.Author.Needs.{needs}
+use Rattle.registers.specs.Values.{flagsByte}
+use Rattle.registers.proofs.values.flags_byte.Statement.{statement}
+use Rattle.registers.proofs.values.flags_byte.Tie as tie
+
+flag-at-requires : tie.Need-flag-at-requires
+flag-at-requires c κs = search needs
+
+flag-at-requires-2 : tie.Need-flag-at-requires-2
+flag-at-requires-2 c κs = search needs
+
+add-result : tie.Need-add-result
+add-result c = search needs
+
+flag-at-requires-3 : tie.Need-flag-at-requires-3
+flag-at-requires-3 c κs = search needs
+
+add-result-2 : tie.Need-add-result-2
+add-result-2 c = search needs
+
+flag-at-requires-4 : tie.Need-flag-at-requires-4
+flag-at-requires-4 c κs = search needs
+
+add-result-3 : tie.Need-add-result-3
+add-result-3 c = search needs
+
+flag-at-requires-5 : tie.Need-flag-at-requires-5
+flag-at-requires-5 c κs = search needs
+
+add-result-4 : tie.Need-add-result-4
+add-result-4 c = search needs
+
+returns : tie.Need-returns
+unfolding flagsByte
+returns c = cc
+
+pub flags-byte-spec : {M : Type 1} → statement M
+flags-byte-spec =
+    tie.close
+    (tie.spec
+    flag-at-requires
+    flag-at-requires-2
+    add-result
+    flag-at-requires-3
+    add-result-2
+    flag-at-requires-4
+    add-result-3
+    flag-at-requires-5
+    add-result-4
+    returns)
