@@ -1,0 +1,21 @@
+-- The gauge of an opening that was refused for its length. Assumes nothing.
+use mathlib.Core.Path.{_∙_, ap}
+use borrow.Author.Needs.{needs}
+use Rattle.handset.specs.Form.{rejectedAnswer}
+use Rattle.gauge.specs.Opening.{openAnswer, openRefusal}
+use Rattle.gauge.specs.declared.answer.Answer.{Answer}
+use Rattle.handset.proofs.load.rejected.Statement.{statement}
+use Rattle.handset.proofs.load.rejected.Tie as tie
+
+slice-aggregate-open : tie.Need-slice-aggregate-open
+slice-aggregate-open c = search needs
+
+open-requires : tie.Need-open-requires
+open-requires c κs = search needs
+
+returns : tie.Need-returns
+unfolding openAnswer openRefusal rejectedAnswer
+returns c = simp (c .before .«open» .ensures)
+
+pub rejected-spec : {M : Type 1} → statement M
+rejected-spec = tie.close (tie.spec slice-aggregate-open open-requires returns)

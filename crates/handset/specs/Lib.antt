@@ -1,0 +1,3 @@
+pub mod Calls
+pub mod Form
+pub mod Little

@@ -1,0 +1,113 @@
+// The calls from C. Each loads the saved bytes, makes the proved call and saves; 14 is tested first, success is 0, and a refusal
+// changes no byte of any buffer.
+ghost use mathlib.Core.Path.{_≡_};
+ghost use lib.ListN.{length};
+ghost use Rattle.handset.specs.Calls as Spec;
+use crate::load::load;
+use crate::save::store;
+use gauge::opening::open;
+use registers::read::read;
+
+// uint32_t gauge_open(const uint8_t *configuration, size_t length, uint8_t *saved, size_t saved_length): 1, 2, 13.
+#[no_mangle]
+pub extern "C" fn gauge_open(configuration: &[u8], saved: &mut [u8]) -> u32
+    ensures number { λ r. ⌜ r ≡ Spec.openNumber (now (configuration .entry)) (length (now (saved .entry))) ⌝ }
+    ensures bytes { λ _. ⌜ now (saved .exit) ≡ Spec.openBytes (now (configuration .entry)) (now (saved .entry)) ⌝ }
+{
+    let answer = open(configuration);
+    if answer.number != 0 {
+        return answer.number;
+    }
+    if saved.len() != 41 {
+        return 13;
+    }
+    let gauge = answer.gauge;
+    store(gauge, saved);
+    0
+}
+
+// uint32_t gauge_window(uint8_t *saved, size_t saved_length, int32_t current, int32_t voltage, int32_t temperature): 14, 3, 4, 5.
+#[no_mangle]
+pub extern "C" fn gauge_window(
+    saved: &mut [u8],
+    current: i32,
+    voltage: i32,
+    temperature: i32,
+) -> u32
+    ensures number { λ r. ⌜ r ≡ Spec.callNumber (now (saved .entry)) (Spec.windowCall current voltage temperature) ⌝ }
+    ensures bytes { λ _. ⌜ now (saved .exit) ≡ Spec.callBytes (now (saved .entry)) (Spec.windowCall current voltage temperature) ⌝ }
+{
+    let loaded = load(saved);
+    if loaded.number != 0 {
+        return loaded.number;
+    }
+    let gauge = loaded.gauge;
+    let answer = gauge.window(current, voltage, temperature);
+    if answer.number != 0 {
+        return answer.number;
+    }
+    let next = answer.gauge;
+    store(next, saved);
+    0
+}
+
+// uint32_t gauge_rest(uint8_t *saved, size_t saved_length, uint32_t windows, int32_t temperature): 14, 6, 5.
+#[no_mangle]
+pub extern "C" fn gauge_rest(saved: &mut [u8], windows: u32, temperature: i32) -> u32
+    ensures number { λ r. ⌜ r ≡ Spec.callNumber (now (saved .entry)) (Spec.restCall windows temperature) ⌝ }
+    ensures bytes { λ _. ⌜ now (saved .exit) ≡ Spec.callBytes (now (saved .entry)) (Spec.restCall windows temperature) ⌝ }
+{
+    let loaded = load(saved);
+    if loaded.number != 0 {
+        return loaded.number;
+    }
+    let gauge = loaded.gauge;
+    let answer = gauge.rest(windows, temperature);
+    if answer.number != 0 {
+        return answer.number;
+    }
+    let next = answer.gauge;
+    store(next, saved);
+    0
+}
+
+// uint32_t gauge_write(uint8_t *saved, size_t saved_length, uint32_t address, uint8_t value): 14, 7 to 11.
+#[no_mangle]
+pub extern "C" fn gauge_write(saved: &mut [u8], address: u32, value: u8) -> u32
+    ensures number { λ r. ⌜ r ≡ Spec.callNumber (now (saved .entry)) (Spec.writeCall address value) ⌝ }
+    ensures bytes { λ _. ⌜ now (saved .exit) ≡ Spec.callBytes (now (saved .entry)) (Spec.writeCall address value) ⌝ }
+{
+    let loaded = load(saved);
+    if loaded.number != 0 {
+        return loaded.number;
+    }
+    let gauge = loaded.gauge;
+    let answer = gauge.write(address, value);
+    if answer.number != 0 {
+        return answer.number;
+    }
+    let next = answer.gauge;
+    store(next, saved);
+    0
+}
+
+// uint32_t gauge_read(const uint8_t *saved, size_t saved_length, uint32_t address, uint32_t count, uint8_t *reply, size_t reply_length,
+// uint32_t place): 14, 12, 13.
+#[no_mangle]
+pub extern "C" fn gauge_read(
+    saved: &[u8],
+    address: u32,
+    count: u32,
+    reply: &mut [u8],
+    place: u32,
+) -> u32
+    ensures number { λ r. ⌜ r ≡ Spec.readNumber (now (saved .entry)) address count place (length (now (reply .entry))) ⌝ }
+    ensures bytes { λ _. ⌜ now (reply .exit) ≡ Spec.readReply (now (saved .entry)) address count place (now (reply .entry)) ⌝ }
+{
+    let loaded = load(saved);
+    if loaded.number != 0 {
+        return loaded.number;
+    }
+    let gauge = loaded.gauge;
+    read(gauge, address, count, reply, place)
+}
