@@ -24,7 +24,7 @@ signed-fits c h = go (c .charging)
     go true = h
     go false = omega arith
 
-accepted-magnitude : (charging : Bool) (m limit : ℕ) → choose (eqb m 0) (not charging) (ltb limit m && leb m 28_011) ≡ true → m ≤ 28_011
+pub accepted-magnitude : (charging : Bool) (m limit : ℕ) → choose (eqb m 0) (not charging) (ltb limit m && leb m 28_011) ≡ true → m ≤ 28_011
 accepted-magnitude charging m limit = go (eqb m 0) refl
   where
     go : (t : Bool) → eqb m 0 ≡ t → choose t (not charging) (ltb limit m && leb m 28_011) ≡ true → m ≤ 28_011

@@ -37,7 +37,7 @@ use Rattle.history.proofs.WriteFollows.{written-follows}
 
 -- ---- one call
 
-step-follows : (call : Call) (g : Gauge) (x : History) → Follows g x → Follows (stepped call g) (lived (g .configuration) call x)
+pub step-follows : (call : Call) (g : Gauge) (x : History) → Follows g x → Follows (stepped call g) (lived (g .configuration) call x)
 unfolding stepped lived refusalOf worked windowAnswer restAnswer writeAnswer
 step-follows (Call.window a v t) g x f = rw (follows-accepted g x f) (go (eqb (sampleRefusal a v t) 0) refl)
   where
@@ -74,7 +74,7 @@ kept-choice : (t : Bool) (a b : Gauge) (c : List ℕ) → a .configuration ≡ c
 kept-choice true a b c p q = p
 kept-choice false a b c p q = q
 
-configuration-kept : (call : Call) (g : Gauge) → (stepped call g) .configuration ≡ g .configuration
+pub configuration-kept : (call : Call) (g : Gauge) → (stepped call g) .configuration ≡ g .configuration
 unfolding stepped windowAnswer restAnswer writeAnswer written window step1 step2 step3 step4 step5 rest obeyed storedAt
 configuration-kept (Call.window a v t) g =
     kept-choice (eqb (unlessRejected g (sampleRefusal a v t)) 0)
@@ -116,7 +116,7 @@ opened-number true true e = let z : ⊥ = omega arith in absurd z
 opened-number true false e = refl
 opened-number false u e = let z : ⊥ = omega arith in absurd z
 
-opened-follows : (c : List ℕ) → ilmd c < 256 → openRefusal c ≡ 0 → Follows (opened c) (History.opened c)
+pub opened-follows : (c : List ℕ) → ilmd c < 256 → openRefusal c ≡ 0 → Follows (opened c) (History.opened c)
 unfolding opened openedHost History.opened openRefusal
 opened-follows c small e =
     let n = eqb-false (ilmd c) 0 (opened-number (eqb (length c) 10) (eqb (ilmd c) 0) e) in
@@ -132,7 +132,7 @@ opened-follows c small e =
       ar-within = omega arith;
     }
 
-opened-answer : (c : List ℕ) → openRefusal c ≡ 0 → (openAnswer c) .gauge ≡ opened c
+pub opened-answer : (c : List ℕ) → openRefusal c ≡ 0 → (openAnswer c) .gauge ≡ opened c
 unfolding openAnswer
 opened-answer c e = rw e
 
