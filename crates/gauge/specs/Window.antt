@@ -1,4 +1,5 @@
 -- "A window" of paper 01: its five steps in order, from one gauge to the next. Definitions only; assumes nothing.
+use mathlib.Core.Bool.{Bool}
 use Prim.Native.Nat.{ℕ}
 use Rattle.cell.specs.Configuration.{s0, sd}
 use Rattle.cell.specs.Current.{discharge}
@@ -32,14 +33,18 @@ step2 g =
       host = g .host;
     }
 
+-- what step 3 finds
+unfoldable pub fullAt : Gauge → Bool
+fullAt g = isFull (g .configuration) (g .shown .current) (g .shown .voltage) (g .charge .held) (g .charge .lmd)
+
 -- Step 3: full; the empty stop is in `Charge.moved`
 unfoldable pub step3 : Gauge → Gauge
 step3 g =
     record {
       configuration = g .configuration;
-      charge = Charge.filledIf (isFull (g .configuration) (g .shown .current) (g .shown .voltage) (g .charge .held) (g .charge .lmd)) (g .charge);
+      charge = Charge.filledIf (fullAt g) (g .charge);
       shown = g .shown;
-      host = Host.fullIf (isFull (g .configuration) (g .shown .current) (g .shown .voltage) (g .charge .held) (g .charge .lmd)) (g .host);
+      host = Host.fullIf (fullAt g) (g .host);
     }
 
 -- what step 4 finds

@@ -1,4 +1,5 @@
 -- Demand 3 as one claim over every list of calls from a freshly opened gauge. Definitions only; assumes nothing.
+use mathlib.Core.Bool.{true}
 use mathlib.Core.List.{List}
 use mathlib.Core.Path.{_≡_}
 use Prim.Native.Nat.{ℕ, _<_}
@@ -10,7 +11,6 @@ use Rattle.gauge.specs.Opening.{openAnswer, openRefusal}
 use Rattle.gauge.specs.declared.state.Gauge.{Gauge}
 use Rattle.history.specs.Call.{Call, after, numberOf}
 use Rattle.history.specs.History.{Drain, none, drain, History, chargeOf, opened, over, refusalOf}
-use mathlib.Core.Bool.{true}
 
 -- "VDQ is set exactly during a run, and DCR equals R, 0 without a run"
 abbrev pub runOf : Drain → Run

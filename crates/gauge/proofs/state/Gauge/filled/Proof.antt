@@ -1,6 +1,6 @@
 -- The callees' results, put together. Assumes nothing.
 use borrow.Author.Needs.{needs}
-use Rattle.gauge.specs.Window.{step3}
+use Rattle.gauge.specs.Window.{fullAt, step3}
 use Rattle.gauge.proofs.state.Gauge.filled.Statement.{statement}
 use Rattle.gauge.proofs.state.Gauge.filled.Tie as tie
 
@@ -14,7 +14,7 @@ full-if-requires : tie.Need-full-if-requires
 full-if-requires c κs = search needs
 
 returns : tie.Need-returns
-unfolding step3
+unfolding fullAt step3
 returns c = cc
 
 pub filled-spec : {M : Type 1} → statement M

@@ -1,0 +1,166 @@
+/*
+ * A drive as a handset's firmware would run it on the bench pack. The numbers printed are fixed by the rules of the gauge alone;
+ * expected.txt holds them, worked out by another implementation.
+ */
+#include "gauge.h"
+
+#include <stdio.h>
+#include <stdlib.h>
+#include <string.h>
+
+static const uint8_t bench_pack[GAUGE_CONFIGURATION_LENGTH] = {
+    0x04, 0x5E, 0x77, 0x05, 0x21, 0x10, 0x00, 0x00, 0x6C, 0x15,
+};
+
+/* The gauge itself. On a handset these bytes lie in RAM that is copied to flash or battery-backed memory. */
+static uint8_t saved[GAUGE_SAVED_LENGTH];
+
+/* For calls whose arguments the program itself chose: a refusal is then a mistake in the program. */
+static void must(const char *call, uint32_t number)
+{
+    if (number != GAUGE_OK) {
+        printf("%s: refused %u\n", call, (unsigned)number);
+        exit(EXIT_FAILURE);
+    }
+}
+
+static void windows(unsigned count, int32_t current, int32_t voltage, int32_t temperature)
+{
+    for (unsigned i = 0; i < count; i++)
+        must("gauge_window", gauge_window(saved, sizeof saved, current, voltage, temperature));
+}
+
+static unsigned pair(const uint8_t *low)
+{
+    return low[0] | (unsigned)low[1] << 8;
+}
+
+/* One read brings FLAGS to TTE. The host's frame has two bytes of its own before the registers, which the read keeps. */
+static void show(const char *moment)
+{
+    enum { first = GAUGE_REG_FLAGS, count = GAUGE_REG_TTE + 2 - GAUGE_REG_FLAGS, header = 2 };
+    uint8_t frame[header + count] = {first, count};
+    const uint8_t *registers = frame + header;
+
+    must("gauge_read", gauge_read(saved, sizeof saved, first, count, frame, sizeof frame, header));
+    if (frame[0] != first || frame[1] != count) {
+        printf("the frame's header changed\n");
+        exit(EXIT_FAILURE);
+    }
+    printf("%-24s %5u %5u %5u %5u %5u %5u\n", moment, pair(registers + GAUGE_REG_NAC - first),
+           pair(registers + GAUGE_REG_LMD - first), (unsigned)registers[GAUGE_REG_RSOC - first],
+           (unsigned)registers[GAUGE_REG_FLAGS - first], pair(registers + GAUGE_REG_CAC - first),
+           pair(registers + GAUGE_REG_TTE - first));
+}
+
+/* A command of the host: its bit to MODE, then its key to CTRL. */
+static uint32_t command(uint8_t bit, uint8_t key)
+{
+    uint32_t number = gauge_write(saved, sizeof saved, GAUGE_REG_MODE, bit);
+
+    return number != GAUGE_OK ? number : gauge_write(saved, sizeof saved, GAUGE_REG_CTRL, key);
+}
+
+/* Prints a call's number and whether the bytes it was given are as they were before it. */
+static void show_refusal(const char *call, uint32_t number, const uint8_t *gauge, const uint8_t *before)
+{
+    printf("%-24s refused %u, gauge %s\n", call, (unsigned)number,
+           memcmp(gauge, before, GAUGE_SAVED_LENGTH) == 0 ? "unchanged" : "changed");
+}
+
+static void show_refusals(void)
+{
+    uint8_t before[GAUGE_SAVED_LENGTH], damaged[GAUGE_SAVED_LENGTH], reply[4] = {0};
+    uint32_t number;
+
+    memcpy(before, saved, sizeof saved);
+    number = gauge_window(saved, sizeof saved, 28012, 3600, 1192);
+    show_refusal("current 28012", number, saved, before);
+    number = gauge_window(saved, sizeof saved, -100, 2599, 1192);
+    show_refusal("voltage 2599", number, saved, before);
+    number = gauge_window(saved, sizeof saved, -100, 3600, 1373);
+    show_refusal("temperature 1373", number, saved, before);
+    number = gauge_rest(saved, sizeof saved, 0, 1192);
+    show_refusal("rest 0", number, saved, before);
+    number = gauge_write(saved, sizeof saved, GAUGE_REG_ARTTE, 1);
+    show_refusal("write to ARTTE", number, saved, before);
+    number = gauge_write(saved, sizeof saved, GAUGE_REG_CTRL, GAUGE_KEY_A9);
+    show_refusal("key without command", number, saved, before);
+    number = gauge_read(saved, sizeof saved, 0x7F, 2, reply, sizeof reply, 0);
+    show_refusal("read 0x7F, 2", number, saved, before);
+    number = gauge_read(saved, sizeof saved, GAUGE_REG_NAC, 2, reply, sizeof reply, 3);
+    show_refusal("reply 4, place 3", number, saved, before);
+
+    /* A flash cell went bad: the highest byte of the charge, which then lies above the capacity. */
+    memcpy(damaged, saved, sizeof saved);
+    damaged[18] ^= 0x40;
+    memcpy(before, damaged, sizeof damaged);
+    number = gauge_window(damaged, sizeof damaged, -100, 3600, 1192);
+    show_refusal("damaged copy", number, damaged, before);
+}
+
+static void power_cut(void)
+{
+    uint8_t flash[GAUGE_SAVED_LENGTH], before[GAUGE_REGISTERS], after[GAUGE_REGISTERS];
+
+    must("gauge_read", gauge_read(saved, sizeof saved, 0, GAUGE_REGISTERS, before, sizeof before, 0));
+    memcpy(flash, saved, sizeof saved);
+    memset(saved, 0, sizeof saved);
+
+    /* Cleared bytes are no gauge, so the firmware takes the copy. Without a copy it would open a new gauge here. */
+    uint32_t number = gauge_read(saved, sizeof saved, 0, GAUGE_REGISTERS, after, sizeof after, 0);
+    printf("%-24s refused %u\n", "after the power cut", (unsigned)number);
+    if (number == GAUGE_REFUSED_SAVED)
+        memcpy(saved, flash, sizeof saved);
+
+    must("gauge_read", gauge_read(saved, sizeof saved, 0, GAUGE_REGISTERS, after, sizeof after, 0));
+    printf("%-24s registers %s\n", "copied back", memcmp(before, after, sizeof before) == 0 ? "equal" : "differ");
+}
+
+int main(void)
+{
+    must("gauge_open", gauge_open(bench_pack, sizeof bench_pack, saved, sizeof saved));
+    printf("%-24s %5s %5s %5s %5s %5s %5s\n", "", "NAC", "LMD", "RSOC", "FLAGS", "CAC", "TTE");
+    show("opened");
+
+    windows(1, 2, 3700, 1192);
+    show("2 units count as 0");
+    windows(1, 20, 4150, 1192);
+    show("full by taper");
+    windows(1, -3000, 3600, 1192);
+    show("first drain");
+
+    /* Three rows, each with a stop on the cradle too short to fill the cell. */
+    for (int row = 1; row <= 3; row++) {
+        windows(60, -2800, 3650, 1200);
+        printf("row %d\n", row);
+        show("  off the cradle");
+        windows(9, 4000, 3950, 1216);
+        show("  cradle stop");
+    }
+
+    windows(40, -15, 3800, 1196);
+    show("standby");
+    must("gauge_rest", gauge_rest(saved, sizeof saved, 16875, 1180));
+    show("a day off");
+
+    /* The charger reports that the cell is full; NAC is set to LMD and a run begins. */
+    must("DONE", command(GAUGE_MODE_DONE, GAUGE_KEY_A9));
+    show("DONE by the host");
+
+    /* A run from full to the first end-of-discharge voltage teaches the capacity, and CI is cleared. */
+    windows(80, -8000, 3500, 1192);
+    show("run");
+    windows(1, -8000, 3000, 1192);
+    show("run taught");
+    windows(1, -8000, 2800, 1192);
+    show("final voltage");
+
+    windows(30, 5000, 3900, 1208);
+    show("cradle again");
+    show_refusals();
+    power_cut();
+    windows(1, -3000, 3700, 1200);
+    show("on the way again");
+    return EXIT_SUCCESS;
+}

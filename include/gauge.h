@@ -1,0 +1,152 @@
+/*
+ * The battery gauge's five calls for C and C++ firmware.
+ *
+ * The firmware owns the gauge: 41 bytes that it keeps in RAM and copies to non-volatile memory as it likes. Every call
+ * gets those bytes and keeps nothing between calls: no writable static data, no allocation. So a gauge may be copied, and two
+ * gauges may be used from two threads. One gauge must not be used by two calls at once.
+ *
+ * Every call answers 0 (GAUGE_OK) or one number of enum gauge_refusal. A refused call changes no byte of any buffer.
+ * No argument needs a test beforehand, with one exception: a pointer must be valid for the length handed in with it, also
+ * where that length is wrong for the call, must not be null, and the two buffers of one call must not overlap.
+ *
+ * Units: a unit of current is 3.57 uV over the sense resistor, a count of charge 3.57 uVh, a voltage is in mV, a temperature in
+ * quarter kelvins (25 degrees Celsius is 1192). 3.57 divided by the sense resistor in milliohms is the mA of a unit and the mAh
+ * of a count: with 20 milliohms a unit is 0.1785 mA and a count 0.1785 mAh. Register pairs stand low byte first.
+ */
+#ifndef GAUGE_H
+#define GAUGE_H
+
+#include <stddef.h>
+#include <stdint.h>
+
+#ifdef __cplusplus
+extern "C" {
+#endif
+
+#define GAUGE_CONFIGURATION_LENGTH 10
+#define GAUGE_SAVED_LENGTH 41
+#define GAUGE_REGISTERS 128
+
+/* What a call accepts. A value outside is refused, never cut to the range. */
+#define GAUGE_CURRENT_MAX 28011 /* units, and as far below 0 */
+#define GAUGE_VOLTAGE_MIN 2600  /* mV */
+#define GAUGE_VOLTAGE_MAX 4500
+#define GAUGE_TEMPERATURE_MIN 1012 /* quarter kelvins: -20 degrees Celsius */
+#define GAUGE_TEMPERATURE_MAX 1372 /* 70 degrees Celsius */
+#define GAUGE_REST_MAX 16875       /* windows of 5.12 s: one day */
+
+enum gauge_refusal {
+    GAUGE_OK = 0,
+    GAUGE_REFUSED_CONFIGURATION_LENGTH = 1, /* not 10 configuration bytes */
+    GAUGE_REFUSED_ILMD_ZERO = 2,            /* design capacity 0 */
+    GAUGE_REFUSED_CURRENT = 3,              /* outside -28011 to 28011 */
+    GAUGE_REFUSED_VOLTAGE = 4,              /* outside 2600 to 4500 */
+    GAUGE_REFUSED_TEMPERATURE = 5,          /* outside 1012 to 1372 */
+    GAUGE_REFUSED_REST_LENGTH = 6,          /* outside 1 to 16875 */
+    GAUGE_REFUSED_ADDRESS = 7,              /* not CTRL, MODE or AR */
+    GAUGE_REFUSED_KEY = 8,                  /* at CTRL, neither 0xA9 nor 0x56 */
+    GAUGE_REFUSED_NO_COMMAND = 9,           /* no command bit set in MODE */
+    GAUGE_REFUSED_NOT_CARRIED = 10,         /* the command does not belong to this key */
+    GAUGE_REFUSED_LMD_ZERO = 11,            /* WRTLMD with AR 0 */
+    GAUGE_REFUSED_COUNT = 12,               /* count 0, or address + count above 128 */
+    GAUGE_REFUSED_REPLY = 13,               /* place + count beyond the reply; opening: saved not 41 bytes */
+    GAUGE_REFUSED_SAVED = 14                /* the saved bytes are no gauge: damaged, cleared or of another length */
+};
+
+/* Register addresses, named as in the bqJUNIOR data sheet. "pair": two bytes, low byte first. Bytes not named here read 0. */
+enum gauge_register {
+    GAUGE_REG_CTRL = 0x00,  /* byte; reads 0 always */
+    GAUGE_REG_MODE = 0x01,  /* byte */
+    GAUGE_REG_AR = 0x02,    /* pair: at rate, units; with WRTNAC and WRTLMD the value, counts */
+    GAUGE_REG_ARTTE = 0x04, /* pair: time to empty at AR, minutes */
+    GAUGE_REG_TEMP = 0x06,  /* pair: quarter kelvins; 0 not measured yet */
+    GAUGE_REG_VOLT = 0x08,  /* pair: mV; 0 not measured yet */
+    GAUGE_REG_FLAGS = 0x0A, /* byte */
+    GAUGE_REG_RSOC = 0x0B,  /* byte: NAC in percent of LMD */
+    GAUGE_REG_NAC = 0x0C,   /* pair: charge held, counts */
+    GAUGE_REG_LMD = 0x0E,   /* pair: learned capacity, counts */
+    GAUGE_REG_CAC = 0x10,   /* pair: NAC compensated for load and cold, counts */
+    GAUGE_REG_FCAC = 0x12,  /* pair: LMD compensated likewise, counts */
+    GAUGE_REG_IAV = 0x14,   /* pair: amount of the counted current, units; its direction is CHGS */
+    GAUGE_REG_TTE = 0x16,   /* pair: time to empty, minutes; 65535 unless discharging */
+    GAUGE_REG_TTF = 0x18,   /* pair: time to full, minutes; 65535 unless charging */
+    GAUGE_REG_SI = 0x1A,    /* pair: standby current, units */
+    GAUGE_REG_STTE = 0x1C,  /* pair: time to empty at SI, minutes */
+    GAUGE_REG_CEDV = 0x20,  /* pair: first end-of-discharge voltage, mV */
+    GAUGE_REG_ILMD = 0x76,  /* the ten configuration bytes, 0x76 to 0x7F */
+    GAUGE_REG_SEDVF = 0x77,
+    GAUGE_REG_SEDV1 = 0x78,
+    GAUGE_REG_ISLC = 0x79,
+    GAUGE_REG_DMFSD = 0x7A,
+    GAUGE_REG_TAPER = 0x7B,
+    GAUGE_REG_PKCFG = 0x7C,
+    GAUGE_REG_ID3 = 0x7D,
+    GAUGE_REG_DCOMP = 0x7E,
+    GAUGE_REG_TCOMP = 0x7F
+};
+
+/* Bits of FLAGS. */
+enum gauge_flag {
+    GAUGE_FLAG_CHGS = 0x80, /* charging */
+    GAUGE_FLAG_CI = 0x10,   /* capacity inaccurate: no run has taught LMD since opening or FRST */
+    GAUGE_FLAG_VDQ = 0x04,  /* a discharge from full is under way that may teach LMD */
+    GAUGE_FLAG_EDV1 = 0x02, /* discharged to CEDV or below */
+    GAUGE_FLAG_EDVF = 0x01  /* discharged to the final voltage: empty */
+};
+
+/* Command bits of MODE. The highest one set is obeyed when its key is written to CTRL. */
+enum gauge_command {
+    GAUGE_MODE_WRTNAC = 0x20, /* key 0xA9: NAC = the smaller of AR and LMD */
+    GAUGE_MODE_DONE = 0x10,   /* key 0xA9: full, the charger says so */
+    GAUGE_MODE_PRST = 0x08,   /* key 0xA9: as opened, but charge, LMD and CI are kept */
+    GAUGE_MODE_FRST = 0x02,   /* key 0xA9: as opened */
+    GAUGE_MODE_WRTLMD = 0x01  /* key 0x56: LMD = AR */
+};
+
+enum gauge_key {
+    GAUGE_KEY_A9 = 0xA9,
+    GAUGE_KEY_56 = 0x56
+};
+
+/*
+ * Makes a new gauge from the ten configuration bytes (order 0x76 to 0x7F): empty, LMD = 256 * ILMD, CI set, nothing measured.
+ * Success fills the 41 bytes at saved; what stood there does not matter.
+ * Refuses, in this order: 1, 2, 13.
+ */
+uint32_t gauge_open(const uint8_t *configuration, size_t length, uint8_t *saved, size_t saved_length);
+
+/*
+ * One window of 5.12 s. current is the window's average in units, positive charging; voltage in mV; temperature in quarter
+ * kelvins. A current of at most DMF units either way counts as 0. Success leaves the gauge after the window in saved.
+ * Refuses, in this order: 14, 3, 4, 5.
+ */
+uint32_t gauge_window(uint8_t *saved, size_t saved_length, int32_t current, int32_t voltage, int32_t temperature);
+
+/*
+ * Windows without current that were not measured one by one, 1 to 16875 of them, all at one temperature: the handset
+ * was off. Takes the cell's own leak; VOLT keeps its last value. Success leaves the gauge after the rest in saved.
+ * Refuses, in this order: 14, 6, 5.
+ */
+uint32_t gauge_rest(uint8_t *saved, size_t saved_length, uint32_t windows, int32_t temperature);
+
+/*
+ * The host writes one byte: MODE (0x01), AR (0x02 low, 0x03 high) or a key to CTRL (0x00). A command is: write AR where it needs
+ * one, write its bit to MODE, write its key to CTRL. A command carried out clears the command bits of MODE; a refused key
+ * leaves them. Success leaves the gauge after the write in saved.
+ * Refuses, in this order: 14, 7, 8, 9, 10, 11.
+ */
+uint32_t gauge_write(uint8_t *saved, size_t saved_length, uint32_t address, uint8_t value);
+
+/*
+ * Copies count registers from address on to reply[place] and following. The other bytes of reply keep, and saved is only read.
+ * A pair may be read in one call or by its bytes: both show the same gauge as long as no other call comes between.
+ * Refuses, in this order: 14, 12, 13.
+ */
+uint32_t gauge_read(const uint8_t *saved, size_t saved_length, uint32_t address, uint32_t count, uint8_t *reply,
+                    size_t reply_length, uint32_t place);
+
+#ifdef __cplusplus
+}
+#endif
+
+#endif
