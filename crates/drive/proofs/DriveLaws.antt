@@ -26,7 +26,7 @@ use Rattle.handset.proofs.RoundTripLaws.{Fits, load-of-saved}
 use Rattle.history.specs.Call as Call
 use Rattle.history.specs.Call.{Call, after, numberOf, stepped}
 use Rattle.history.specs.History as History
-use Rattle.history.specs.History.{History, lived}
+use Rattle.history.specs.History.{History, afterCall}
 use Rattle.history.proofs.Following.{Follows, follows-accepted}
 use Rattle.history.proofs.ListLaws.{configuration-kept, opened-answer, opened-follows, step-follows}
 use Rattle.drive.specs.Drive.{EveryDrive, Holds, bytesAfter, calledBytes, calledNumber}
@@ -106,7 +106,7 @@ unfolding bytesAfter after
 list-holds [] g x f t = record { bytes = refl; numbers = step-numbers g x f t }
 list-holds (call ∷ calls) g x f t =
     rw (step-bytes g x f t call)
-    (list-holds calls (stepped call g) (lived (g .configuration) call x) (step-follows call g x f)
+    (list-holds calls (stepped call g) (afterCall (g .configuration) call x) (step-follows call g x f)
     (subst TenBytes (sym (configuration-kept call g)) t))
 
 open-0 : (p q n : Bool) → orElse (choose p (choose q 2 0) 1) (choose n 0 13) ≡ 0 → (choose {A = ℕ} p (choose q 2 0) 1 ≡ 0) × (p ≡ true)

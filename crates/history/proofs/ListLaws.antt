@@ -24,7 +24,7 @@ use Rattle.registers.specs.Reading.{placeRefusal}
 use Rattle.history.specs.Call.{Call, after, stepped}
 use Rattle.history.specs.Call as Call
 use Rattle.history.specs.Claim.{Agrees, Demand3}
-use Rattle.history.specs.History.{History, chargeOf, lived, over, refusalOf, worked, windowOf}
+use Rattle.history.specs.History.{History, chargeOf, afterCall, afterCalls, refusalOf, worked, windowOf}
 use Rattle.history.specs.History as History
 use Rattle.history.proofs.CommandLaws.{opened-bounded, opened-tracks}
 use Rattle.history.proofs.DifferenceLaws.{is-natural}
@@ -37,8 +37,8 @@ use Rattle.history.proofs.WriteFollows.{written-follows}
 
 -- ---- one call
 
-pub step-follows : (call : Call) (g : Gauge) (x : History) → Follows g x → Follows (stepped call g) (lived (g .configuration) call x)
-unfolding stepped lived refusalOf worked windowAnswer restAnswer writeAnswer
+pub step-follows : (call : Call) (g : Gauge) (x : History) → Follows g x → Follows (stepped call g) (afterCall (g .configuration) call x)
+unfolding stepped afterCall refusalOf worked windowAnswer restAnswer writeAnswer
 step-follows (Call.window a v t) g x f = rw (follows-accepted g x f) (go (eqb (sampleRefusal a v t) 0) refl)
   where
     c : List ℕ
@@ -90,12 +90,12 @@ configuration-kept (Call.read address count place replyLength) g = refl
 
 -- ---- every list
 
-pub list-follows : (calls : List Call) (g : Gauge) (x : History) → Follows g x → Follows (after calls g) (over (g .configuration) calls x)
-unfolding after over
+pub list-follows : (calls : List Call) (g : Gauge) (x : History) → Follows g x → Follows (after calls g) (afterCalls (g .configuration) calls x)
+unfolding after afterCalls
 list-follows [] g x f = f
 list-follows (call ∷ calls) g x f =
-    subst (λ (c : List ℕ). Follows (after calls (stepped call g)) (over c calls (lived (g .configuration) call x)))
-    (configuration-kept call g) (list-follows calls (stepped call g) (lived (g .configuration) call x) (step-follows call g x f))
+    subst (λ (c : List ℕ). Follows (after calls (stepped call g)) (afterCalls c calls (afterCall (g .configuration) call x)))
+    (configuration-kept call g) (list-follows calls (stepped call g) (afterCall (g .configuration) call x) (step-follows call g x f))
 
 -- ---- demand 3
 
@@ -140,5 +140,5 @@ pub demand-3 : Demand3
 unfolding opened
 demand-3 c bytes e calls =
     rw (opened-answer c e)
-    (follows-agrees (after calls (opened c)) (over c calls (History.opened c))
+    (follows-agrees (after calls (opened c)) (afterCalls c calls (History.opened c))
     (list-follows calls (opened c) (History.opened c) (opened-follows c (bytes 0) e)))

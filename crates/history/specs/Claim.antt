@@ -10,7 +10,7 @@ use Rattle.cell.specs.declared.run.Run.{Run}
 use Rattle.gauge.specs.Opening.{openAnswer, openRefusal}
 use Rattle.gauge.specs.declared.state.Gauge.{Gauge}
 use Rattle.history.specs.Call.{Call, after, numberOf}
-use Rattle.history.specs.History.{Drain, none, drain, History, chargeOf, opened, over, refusalOf}
+use Rattle.history.specs.History.{Drain, none, drain, History, chargeOf, opened, afterCalls, refusalOf}
 
 -- "VDQ is set exactly during a run, and DCR equals R, 0 without a run"
 abbrev pub runOf : Drain → Run
@@ -33,4 +33,4 @@ pub record Agrees (g : Gauge) (x : History) : Type 0 where
 abbrev pub Demand3 : Type 0
 Demand3 =
     (configuration : List ℕ) → ((k : ℕ) → getD configuration k 0 < 256) → openRefusal configuration ≡ 0 → (calls : List Call)
-    → Agrees (after calls ((openAnswer configuration) .gauge)) (over configuration calls (opened configuration))
+    → Agrees (after calls ((openAnswer configuration) .gauge)) (afterCalls configuration calls (opened configuration))

@@ -215,10 +215,10 @@ worked configuration (rest n t) x = rested n (leakRate (sd configuration) (tempe
 worked configuration (write address value) x = written configuration address (value .number) x
 worked configuration (read address count place replyLength) x = x
 
-unfoldable pub lived : List ℕ → Call → History → History
-lived configuration call x = choose (eqb (refusalOf call x) 0) (worked configuration call x) x
+unfoldable pub afterCall : List ℕ → Call → History → History
+afterCall configuration call x = choose (eqb (refusalOf call x) 0) (worked configuration call x) x
 
 -- the history of a list of calls, the first call first
-unfoldable pub over : List ℕ → List Call → History → History
-over configuration [] x = x
-over configuration (call ∷ calls) x = over configuration calls (lived configuration call x)
+unfoldable pub afterCalls : List ℕ → List Call → History → History
+afterCalls configuration [] x = x
+afterCalls configuration (call ∷ calls) x = afterCalls configuration calls (afterCall configuration call x)
