@@ -37,8 +37,8 @@ flags edv1 edvf s =
     }
 
 -- Step 2: "If c > 0: .. EDV1, EDVF cleared"
-unfoldable pub unchargedFlags : Shown → Shown
-unchargedFlags s =
+unfoldable pub chargingCleared : Shown → Shown
+chargingCleared s =
     record {
       current = s .current;
       voltage = s .voltage;
@@ -50,8 +50,8 @@ unchargedFlags s =
     }
 
 -- Step 4: "CI cleared"
-unfoldable pub learnedFlag : Shown → Shown
-learnedFlag s =
+unfoldable pub ciCleared : Shown → Shown
+ciCleared s =
     record {
       current = s .current;
       voltage = s .voltage;
@@ -67,7 +67,7 @@ unfoldable pub ended : Ending → Shown → Shown
 ended Above s = s
 ended Edvf s = flags true true s
 ended Edv1 s = flags true (s .edvf) s
-ended Qualified s = learnedFlag (flags true (s .edvf) s)
+ended Qualified s = ciCleared (flags true (s .edvf) s)
 
 -- Step 5: "If c < 0 and IAV ≤ 2 × S0: SI (standby current) = floor((15 × SI + IAV) / 16)."
 unfoldable pub averagedStandby : ℕ → ℕ → ℕ → ℕ

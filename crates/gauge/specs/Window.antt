@@ -29,7 +29,7 @@ step2 g =
     record {
       configuration = g .configuration;
       charge = Charge.moved (g .shown .current) (g .charge);
-      shown = Shown.unchargedFlags (g .shown);
+      shown = Shown.chargingCleared (g .shown);
       host = g .host;
     }
 

@@ -35,8 +35,8 @@ impl Shown {
     }
 
     // Charging clears the end-of-discharge flags.
-    pub(crate) fn uncharged_flags(self) -> Shown
-        ensures { λ r. ⌜ r ≡ Spec.unchargedFlags self ⌝ }
+    pub(crate) fn charging_cleared(self) -> Shown
+        ensures { λ r. ⌜ r ≡ Spec.chargingCleared self ⌝ }
     {
         if self.current.charging {
             return self.flags(false, false);
@@ -61,8 +61,8 @@ impl Shown {
     }
 
     // CI cleared.
-    pub(crate) fn learned(self) -> Shown
-        ensures { λ r. ⌜ r ≡ Spec.learnedFlag self ⌝ }
+    pub(crate) fn ci_cleared(self) -> Shown
+        ensures { λ r. ⌜ r ≡ Spec.ciCleared self ⌝ }
     {
         let current = self.current;
         Shown {
@@ -84,7 +84,7 @@ impl Shown {
             Ending::Above => self,
             Ending::Edvf => self.flags(true, true),
             Ending::Edv1 => self.flags(true, self.edvf),
-            Ending::Qualified => self.flags(true, self.edvf).learned(),
+            Ending::Qualified => self.flags(true, self.edvf).ci_cleared(),
         }
     }
 

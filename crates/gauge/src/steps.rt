@@ -34,7 +34,7 @@ impl Gauge {
         let configuration = self.configuration;
         let host = self.host;
         let charge = self.charge.moved(self.shown.current);
-        let shown = self.shown.uncharged_flags();
+        let shown = self.shown.charging_cleared();
         Gauge {
             configuration,
             charge,

@@ -16,7 +16,7 @@ use Rattle.cell.specs.declared.current.Current.{Current}
 use Rattle.gauge.specs.Accepted.{currentAccepted, shownAccepted, zeroOrBetween}
 use Rattle.gauge.specs.Opening.{openedShown}
 use Rattle.gauge.specs.Rest.{shownRested}
-use Rattle.gauge.specs.Shown.{averaged, averagedStandby, ended, flags, learnedFlag, measured, unchargedFlags}
+use Rattle.gauge.specs.Shown.{averaged, averagedStandby, ended, flags, ciCleared, measured, chargingCleared}
 use Rattle.gauge.specs.declared.ending.Ending.{Ending}
 use Rattle.gauge.specs.declared.ending.Ending.the-variants.{Above, Edvf, Edv1, Qualified}
 use Rattle.gauge.specs.declared.shown.Shown.{Shown}
@@ -110,7 +110,7 @@ record Kept (s r : Shown) : Type 0 where
   pub standby : r .standby ≡ s .standby
 
 ended-keeps : (e : Ending) (s : Shown) → Kept s (ended e s)
-unfolding ended flags learnedFlag
+unfolding ended flags ciCleared
 ended-keeps Above s = record { current = refl; voltage = refl; temperature = refl; standby = refl }
 ended-keeps Edvf s = record { current = refl; voltage = refl; temperature = refl; standby = refl }
 ended-keeps Edv1 s = record { current = refl; voltage = refl; temperature = refl; standby = refl }
@@ -127,10 +127,10 @@ averaged-within s0 si iav h = go (not (eqb iav 0)) (leb iav (2 * s0)) refl
 
 module _ (c : List ℕ) (s : Shown) (k : ShownSound c s) where
   pub window-shown : (a v t : ℤ) (e : Ending) → currentInRange a ≡ true → voltageInRange v ≡ true → temperatureInRange t ≡ true
-      → ShownSound c (averaged (s0 c) (ended e (unchargedFlags (measured (counted (dmf c) (current a)) (voltage v) (temperature t) s))))
-  unfolding averaged unchargedFlags measured
+      → ShownSound c (averaged (s0 c) (ended e (chargingCleared (measured (counted (dmf c) (current a)) (voltage v) (temperature t) s))))
+  unfolding averaged chargingCleared measured
   window-shown a v t e p q r =
-      let x = unchargedFlags (measured (counted (dmf c) (current a)) (voltage v) (temperature t) s) in
+      let x = chargingCleared (measured (counted (dmf c) (current a)) (voltage v) (temperature t) s) in
       let h = ended-keeps e x in
       record {
         standby = averaged-within (s0 c) ((ended e x) .standby) (discharge ((ended e x) .current)) (let l = h .standby in let m = k .standby in omega arith);

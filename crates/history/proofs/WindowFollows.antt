@@ -20,7 +20,7 @@ use Rattle.gauge.specs.Command.{highestCommandBit}
 use Rattle.gauge.specs.Ending.{endingOf}
 use Rattle.gauge.specs.Full.{isFull}
 use Rattle.gauge.specs.Host.{fullIf}
-use Rattle.gauge.specs.Shown.{measured, unchargedFlags}
+use Rattle.gauge.specs.Shown.{measured, chargingCleared}
 use Rattle.gauge.specs.Window.{endingAt, fullAt, step1, step2, step3, step4, step5, window}
 use Rattle.gauge.specs.declared.host.Host.{Host}
 use Rattle.gauge.specs.declared.state.Gauge.{Gauge}
@@ -99,7 +99,7 @@ pub window-follows : (g : Gauge) (x : History) (a v t : ℤ) → Follows g x
     → currentInRange a ≡ true → voltageInRange v ≡ true → temperatureInRange t ≡ true
     → Follows (window (counted (dmf (g .configuration)) (current a)) (voltage v) (temperature t) g)
     (windowOf (g .configuration) (counted (dmf (g .configuration)) (current a)) (voltage v) (temperature t) x)
-unfolding window step1 step2 step3 step4 step5 endingAt fullAt measured unchargedFlags
+unfolding window step1 step2 step3 step4 step5 endingAt fullAt measured chargingCleared
 window-follows g x a v t f p q r =
     let c = g .configuration in
     let i = counted (dmf c) (current a) in

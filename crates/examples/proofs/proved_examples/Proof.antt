@@ -17,7 +17,7 @@ use Rattle.gauge.specs.Full.{isFull}
 use Rattle.gauge.specs.Host.{fullIf}
 use Rattle.gauge.specs.Opening.{openAnswer, openRefusal, opened, openedCharge, openedHost, openedShown}
 use Rattle.gauge.specs.Shown as Shown
-use Rattle.gauge.specs.Shown.{averaged, averagedStandby, flags, learnedFlag, measured, unchargedFlags}
+use Rattle.gauge.specs.Shown.{averaged, averagedStandby, flags, ciCleared, measured, chargingCleared}
 use Rattle.gauge.specs.Window.{endingAt, fullAt, step1, step2, step3, step4, step5, window}
 use Rattle.registers.specs.Values as Values
 use Rattle.registers.specs.Values.{cac, flagsByte, reduction, rsoc, tte}
@@ -25,7 +25,7 @@ use Rattle.examples.proofs.proved_examples.Statement.{statement}
 use Rattle.examples.proofs.proved_examples.Tie as tie
 
 returns : tie.Need-returns
-unfolding dcmp dt minutes offsetTerm rateTerm dcompTaken charge counted discharge band leak leakRate reached weight learned drained unlessPassed between currentInRange accepted chargeAccepted currentAccepted runAccepted shownAccepted zeroOrBetween windowAnswer ended filled filledIf leaked moved runMoved decide decideA9 highestCommandBit endingOf mayTeach isFull fullIf openAnswer openRefusal opened openedCharge openedHost openedShown Shown.ended averaged averagedStandby flags learnedFlag measured unchargedFlags endingAt fullAt step1 step2 step3 step4 step5 window Values.flags flagsByte cac reduction rsoc tte
+unfolding dcmp dt minutes offsetTerm rateTerm dcompTaken charge counted discharge band leak leakRate reached weight learned drained unlessPassed between currentInRange accepted chargeAccepted currentAccepted runAccepted shownAccepted zeroOrBetween windowAnswer ended filled filledIf leaked moved runMoved decide decideA9 highestCommandBit endingOf mayTeach isFull fullIf openAnswer openRefusal opened openedCharge openedHost openedShown Shown.ended averaged averagedStandby flags ciCleared measured chargingCleared endingAt fullAt step1 step2 step3 step4 step5 window Values.flags flagsByte cac reduction rsoc tte
 returns c =
     record {
       cell = examples;

@@ -25,8 +25,8 @@ enum-told-4 c = search needs
 flags-requires-3 : tie.Need-flags-requires-3
 flags-requires-3 c κs = search needs
 
-learned-requires : tie.Need-learned-requires
-learned-requires c κs = search needs
+ci-cleared-requires : tie.Need-ci-cleared-requires
+ci-cleared-requires c κs = search needs
 
 returns : tie.Need-returns
 unfolding ended
@@ -55,7 +55,7 @@ ended-spec =
     flags-requires-2
     enum-told-4
     flags-requires-3
-    learned-requires
+    ci-cleared-requires
     returns
     returns-2
     returns-3

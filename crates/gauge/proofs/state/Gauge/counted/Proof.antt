@@ -7,12 +7,12 @@ use Rattle.gauge.proofs.state.Gauge.counted.Tie as tie
 moved-requires : tie.Need-moved-requires
 moved-requires c κs = search needs
 
-uncharged-flags-requires : tie.Need-uncharged-flags-requires
-uncharged-flags-requires c κs = search needs
+charging-cleared-requires : tie.Need-charging-cleared-requires
+charging-cleared-requires c κs = search needs
 
 returns : tie.Need-returns
 unfolding step2
 returns c = cc
 
 pub counted-spec : {M : Type 1} → statement M
-counted-spec = tie.close (tie.spec moved-requires uncharged-flags-requires returns)
+counted-spec = tie.close (tie.spec moved-requires charging-cleared-requires returns)
