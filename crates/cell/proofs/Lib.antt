@@ -1,4 +1,3 @@
-pub mod ChooseLaws
 pub mod EveryLaws
 pub mod ExampleLaws
 pub mod LeakLaws
