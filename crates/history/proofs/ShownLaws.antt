@@ -41,18 +41,6 @@ module _ (c : List ℕ) (s : Shown) where
   warm : Bool
   warm = zeroOrBetween 1_012 1_372 (s .temperature)
 
-  pub shown-sound : shownAccepted c s ≡ true → ShownSound c s
-  unfolding shownAccepted low flowing volts warm
-  shown-sound e =
-      let r = and-right low (flowing && (volts && warm)) e in
-      let q = and-right flowing (volts && warm) r in
-      record {
-        standby = leb-true (s .standby) (2 * s0 c) (and-left low (flowing && (volts && warm)) e);
-        current = and-left flowing (volts && warm) r;
-        voltage = and-left volts warm q;
-        temperature = and-right volts warm q;
-      }
-
   pub shown-accepted : ShownSound c s → shownAccepted c s ≡ true
   unfolding shownAccepted low flowing volts warm
   shown-accepted k =
