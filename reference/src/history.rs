@@ -1,0 +1,206 @@
+//! The history of demand 3 (paper 01, "Fixing points of demand 3").
+//!
+//! It is fed the opened configuration and the calls' arguments and takes nothing from the gauge. It shares with the gauge only the
+//! rules that are about numbers alone: leak, full test, what a run teaches, which command a key picks, which refusal arguments give.
+
+use crate::command::{self, Command};
+use crate::configuration::Configuration;
+use crate::fixing::{FixingPoint, FixingPoints};
+use crate::leak::{self, GRAINS_PER_COUNT, GRAINS_PER_UNIT, GREATEST_DRAIN};
+use crate::learning;
+use crate::refusal;
+use crate::window::is_full;
+
+/// A call of a list, with its arguments. Of a read's reply only the length matters here.
+#[derive(Clone, Copy, Debug, PartialEq, Eq)]
+pub enum Call {
+    Window { current: i32, voltage: i32, temperature: i32 },
+    Rest { windows: u32, temperature: i32 },
+    Write { address: u32, value: u8 },
+    Read { address: u32, count: u32, reply_length: usize, place: u32 },
+}
+
+/// What the history keeps. The sums have no greatest value, so they are wider than any charge.
+#[derive(Clone, Copy, Debug, PartialEq, Eq)]
+pub struct History {
+    pub configuration: Configuration,
+    /// Charge at the last fixing point, in grains.
+    pub p: i64,
+    /// Sum since then of counted currents.
+    pub q: i128,
+    /// Sum since then of leaks.
+    pub k: i128,
+    /// Learned capacity, in counts.
+    pub l: i32,
+    /// The drain R of a run, or no run.
+    pub run: Option<i64>,
+    pub mode: u8,
+    pub ar: i32,
+}
+
+impl History {
+    /// The start: the opening is the first fixing point.
+    pub fn opened(configuration: Configuration) -> History {
+        History {
+            configuration,
+            p: 0,
+            q: 0,
+            k: 0,
+            l: configuration.design_capacity(),
+            run: None,
+            mode: configuration.opened_mode(),
+            ar: 0,
+        }
+    }
+
+    /// H = P + 192,000 × Q − K. Within a window it can be below 0; it always fits, as Q and K cancel to a charge of the cell.
+    pub fn h(&self) -> i64 {
+        let sum = i128::from(self.p) + i128::from(GRAINS_PER_UNIT) * self.q - self.k;
+        i64::try_from(sum).expect("H is a charge of the cell, or one window's current below it")
+    }
+
+    /// DCR as demand 3 has it: R, or 0 without a run.
+    pub fn r(&self) -> i64 {
+        self.run.unwrap_or(0)
+    }
+
+    fn fix(&mut self, charge: i64) {
+        self.p = charge;
+        self.q = 0;
+        self.k = 0;
+    }
+
+    fn full_charge(&self) -> i64 {
+        i64::from(self.l) * GRAINS_PER_COUNT
+    }
+
+    /// The number with which a call would be refused, by its arguments and the MODE and AR kept here. 14 never arises.
+    pub fn refused(&self, call: &Call) -> Result<(), u32> {
+        match *call {
+            Call::Window { current, voltage, temperature } => refusal::window(current, voltage, temperature),
+            Call::Rest { windows, temperature } => refusal::rest(windows, temperature),
+            Call::Write { address, value } => refusal::write(address, value, self.mode, self.ar),
+            Call::Read { address, count, reply_length, place } => refusal::read(address, count, reply_length, place),
+        }
+    }
+
+    /// Takes a call: the fixing points it makes, or the number with which it is refused, and then nothing changes.
+    pub fn call(&mut self, call: &Call) -> Result<FixingPoints, u32> {
+        self.refused(call)?;
+        Ok(match *call {
+            Call::Window { current, voltage, temperature } => self.window(current, voltage, temperature),
+            Call::Rest { windows, temperature } => self.rest(windows, temperature),
+            Call::Write { address, value } => self.write(address, value),
+            Call::Read { .. } => FixingPoints::default(),
+        })
+    }
+
+    fn window(&mut self, a: i32, v: i32, t: i32) -> FixingPoints {
+        let c = self.configuration.counted(a);
+        let leak = leak::leak(self.h(), self.configuration.sd(), leak::w(t));
+        self.k += i128::from(leak);
+        self.q += i128::from(c);
+        if c > 0 {
+            self.run = None;
+        } else {
+            self.drain(leak + GRAINS_PER_UNIT * i64::from(-c));
+        }
+        let mut points = FixingPoints::default();
+        self.full_or_empty_stop(c, v, &mut points);
+        self.end_of_discharge(c, v, t, &mut points);
+        points
+    }
+
+    /// A run's R gains a drain, and the run ends if R is above 65,535 × G.
+    fn drain(&mut self, grains: i64) {
+        self.run = self.run.map(|r| r + grains).filter(|&r| r <= GREATEST_DRAIN);
+    }
+
+    fn full_or_empty_stop(&mut self, c: i32, v: i32, points: &mut FixingPoints) {
+        let taper = self.configuration.taper();
+        if is_full(c, v, taper, self.h(), self.full_charge()) {
+            self.fix(self.full_charge());
+            self.run = Some(0);
+            points.insert(FixingPoint::Full);
+        }
+        if c < 0 && self.h() <= 0 {
+            self.fix(0);
+            points.insert(FixingPoint::EmptyStop);
+        }
+    }
+
+    fn end_of_discharge(&mut self, c: i32, v: i32, t: i32, points: &mut FixingPoints) {
+        if c < 0 && v <= self.configuration.edvf() {
+            self.fix(0);
+            self.run = None;
+            points.insert(FixingPoint::EdvfWindow);
+        } else if c < 0 && v <= self.configuration.e1() {
+            let ended = self.run.take();
+            let warm = t >= self.configuration.cold_limit();
+            let heavy = -c > self.configuration.standby_limit();
+            if let (Some(r), true, true) = (ended, warm, heavy) {
+                self.l = learning::learned(r, self.l);
+                self.fix(learning::charge_after(self.l));
+                points.insert(FixingPoint::QualifiedRun);
+            }
+        }
+    }
+
+    fn rest(&mut self, windows: u32, t: i32) -> FixingPoints {
+        let w = leak::w(t);
+        for _ in 0..windows {
+            let leak = leak::leak(self.h(), self.configuration.sd(), w);
+            self.k += i128::from(leak);
+            self.drain(leak);
+        }
+        FixingPoints::default()
+    }
+
+    /// A write that is not refused.
+    fn write(&mut self, address: u32, value: u8) -> FixingPoints {
+        match address {
+            command::MODE => self.mode = value,
+            command::AR_LOW | command::AR_HIGH => self.ar = command::ar_with(self.ar, address, value),
+            _ => {
+                if let Ok(picked) = command::decide(value, self.mode, self.ar) {
+                    return self.command(picked);
+                }
+            }
+        }
+        FixingPoints::default()
+    }
+
+    /// The bits of MODE are cleared after each command and by nothing else: INIT, which full and DONE clear in the gauge, stays here.
+    fn command(&mut self, picked: Command) -> FixingPoints {
+        let points = match picked {
+            Command::Wrtnac => {
+                self.fix(i64::from(self.ar.min(self.l)) * GRAINS_PER_COUNT);
+                self.run = None;
+                FixingPoints::of(FixingPoint::Wrtnac)
+            }
+            Command::Wrtlmd => {
+                self.l = self.ar;
+                self.fix(self.h().min(self.full_charge()));
+                self.run = None;
+                FixingPoints::of(FixingPoint::Wrtlmd)
+            }
+            Command::Done => {
+                self.fix(self.full_charge());
+                self.run = Some(0);
+                FixingPoints::of(FixingPoint::Done)
+            }
+            Command::Frst => {
+                *self = History::opened(self.configuration);
+                FixingPoints::of(FixingPoint::Frst)
+            }
+            Command::Prst => {
+                self.run = None;
+                self.mode = self.configuration.opened_mode();
+                self.ar = 0;
+                FixingPoints::default()
+            }
+        };
+        self.mode &= !command::ALL_COMMAND_BITS;
+        points
+    }
+}

@@ -1,0 +1,27 @@
+//! The battery gauge of paper 01 a second time, in plain Rust, written from the paper and not from the Rattle code.
+//!
+//! It is there to be compared with the shipped library: `comparison` makes the same calls on both. Every rule stands once,
+//! in the file that carries its name, and its comment names the place of the paper it follows.
+//!
+//! - `calls` has the five calls on the 41 saved bytes; all else of the gauge is below it.
+//! - `history` works out demand 3 from the configuration and the calls' arguments and never looks at a gauge.
+//! - `bench` is the bench program as a function from input bytes to output bytes.
+//! - `trace` runs a gauge and its history side by side and gives a row for each call.
+
+pub mod bench;
+pub mod calls;
+pub mod command;
+pub mod compensation;
+pub mod configuration;
+pub mod fixing;
+pub mod gauge;
+pub mod history;
+pub mod leak;
+pub mod learning;
+pub mod numbers;
+pub mod refusal;
+pub mod registers;
+pub mod rest;
+pub mod saved;
+pub mod trace;
+pub mod window;

@@ -1,0 +1,123 @@
+//! The saved bytes: their layout, and every condition of acceptance at its edge and one beyond.
+
+mod common;
+use common::*;
+use reference::gauge::{Gauge, CHGS, CI, EDV1, EDVF, VDQ};
+use reference::saved::{load, store};
+
+fn accepted(change: impl Fn(&mut Gauge)) -> bool {
+    load(&with(change)).is_ok()
+}
+
+#[test]
+fn every_field_stands_in_its_place() {
+    let bytes = with(|gauge| {
+        *gauge = Gauge {
+            h: 0x12_3456_789A,
+            dcr: 0x3_2109_8765,
+            lmd: 0xFEDC,
+            si: 0x0014,
+            c: -0x1234,
+            volt: 0x0ABC,
+            temp: 0x04D2,
+            ar: 0xBEEF,
+            mode: 0x5A,
+            flags: VDQ,
+            ..*gauge
+        }
+    });
+    #[rustfmt::skip]
+    let expected = [
+        1, 0x04, 0x5E, 0x77, 0x05, 0x21, 0x10, 0x00, 0x00, 0x6C, 0x15,
+        0x9A, 0x78, 0x56, 0x34, 0x12, 0, 0, 0, 0x65, 0x87, 0x09, 0x21, 0x03, 0, 0, 0,
+        0xDC, 0xFE, 0x14, 0x00, 0xCC, 0xED, 0xBC, 0x0A, 0xD2, 0x04, 0xEF, 0xBE, 0x5A, 0x04,
+    ];
+    assert_eq!(bytes, expected);
+    let mut again = [0xEE; 41];
+    store(&gauge(&bytes), &mut again);
+    assert_eq!(again, bytes);
+}
+
+#[test]
+fn length_form_and_ilmd() {
+    let bytes = opened();
+    assert!((0..=64).all(|length| load(&[bytes.as_slice(), &[0; 23]].concat()[..length]).is_ok() == (length == 41)));
+    for form in [0, 2, 255] {
+        let mut other = bytes;
+        other[0] = form;
+        assert_eq!(load(&other), Err(14));
+    }
+    assert!(!accepted(|gauge| gauge.configuration.bytes[0] = 0));
+}
+
+#[test]
+fn charge_and_drain() {
+    assert!(!accepted(|gauge| gauge.lmd = 0));
+    assert!(accepted(|gauge| gauge.h = 1024 * G));
+    assert!(!accepted(|gauge| gauge.h = 1024 * G + 1));
+    assert!(!accepted(|gauge| gauge.h = -1));
+    assert!(!accepted(|gauge| gauge.h = i64::MIN));
+    for (dcr, flags, ok) in
+        [(GREATEST_DRAIN, VDQ, true), (GREATEST_DRAIN + 1, VDQ, false), (-1, VDQ, false), (0, 0, true), (1, 0, false)]
+    {
+        let tried = accepted(|gauge| {
+            gauge.dcr = dcr;
+            gauge.flags = flags;
+        });
+        assert_eq!(tried, ok);
+    }
+}
+
+#[test]
+fn measures() {
+    /// Sets a field, with values that are accepted and values that are not.
+    type Edge = (fn(&mut Gauge, i32), &'static [i32], &'static [i32]);
+    let edges: [Edge; 3] = [
+        (|gauge, value| gauge.si = value, &[0, 20], &[21, 65_535]),
+        (|gauge, value| gauge.volt = value, &[0, 2600, 4500], &[1, 2599, 4501, 65_535]),
+        (|gauge, value| gauge.temp = value, &[0, 1012, 1372], &[1, 1011, 1373, 65_535]),
+    ];
+    for (set, good, bad) in edges {
+        assert!(good.iter().all(|&value| accepted(|gauge| set(gauge, value))));
+        assert!(bad.iter().all(|&value| !accepted(|gauge| set(gauge, value))));
+    }
+}
+
+#[test]
+fn current_and_its_flag() {
+    for (c, ok) in [
+        (0, true),
+        (2, false),
+        (-2, false),
+        (3, true),
+        (-3, true),
+        (28_011, true),
+        (28_012, false),
+        (-28_011, true),
+        (-28_012, false),
+    ] {
+        let right = if c > 0 { CI | CHGS } else { CI };
+        for (flags, ok) in [(right, ok), (right ^ CHGS, false)] {
+            let tried = accepted(|gauge| {
+                gauge.c = c;
+                gauge.flags = flags;
+            });
+            assert_eq!(tried, ok, "c {c} flags {flags}");
+        }
+    }
+}
+
+#[test]
+fn flag_bits_without_a_name_are_0() {
+    for flags in 0..=0x7F {
+        let known = flags & !(CI | VDQ | EDV1 | EDVF) == 0;
+        assert_eq!(accepted(|gauge| gauge.flags = flags), known);
+    }
+}
+
+#[test]
+fn gauges_that_no_list_reaches_are_accepted() {
+    assert!(accepted(|gauge| gauge.flags = EDVF));
+    assert!(accepted(|gauge| gauge.mode = 0xFF));
+    assert!(accepted(|gauge| gauge.c = -28_011));
+}
