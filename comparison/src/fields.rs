@@ -1,0 +1,164 @@
+//! The fields of saved bytes, valid ones at random over all that is accepted, reachable by a list or not.
+
+use crate::random::Random;
+use crate::values;
+use reference::configuration::Configuration;
+use reference::leak::{GRAINS_PER_COUNT, GREATEST_DRAIN};
+use reference::refusal::CURRENT_MAX;
+
+pub const CHGS: u8 = 0x80;
+pub const VDQ: u8 = 0x04;
+
+/// The saved gauge field by field, without any condition.
+#[derive(Clone)]
+pub struct Fields {
+    pub form: u8,
+    pub configuration: [u8; 10],
+    pub h: u64,
+    pub dcr: u64,
+    pub lmd: u16,
+    pub si: u16,
+    pub c: i16,
+    pub volt: u16,
+    pub temp: u16,
+    pub ar: u16,
+    pub mode: u8,
+    pub flags: u8,
+}
+
+impl Fields {
+    /// The 41 bytes in the order of paper 01, "Saved gauge", low byte first.
+    pub fn bytes(&self) -> Vec<u8> {
+        let mut bytes = vec![self.form];
+        bytes.extend(self.configuration);
+        bytes.extend(self.h.to_le_bytes());
+        bytes.extend(self.dcr.to_le_bytes());
+        bytes.extend(self.lmd.to_le_bytes());
+        bytes.extend(self.si.to_le_bytes());
+        bytes.extend(self.c.to_le_bytes());
+        bytes.extend(self.volt.to_le_bytes());
+        bytes.extend(self.temp.to_le_bytes());
+        bytes.extend(self.ar.to_le_bytes());
+        bytes.extend([self.mode, self.flags]);
+        bytes
+    }
+
+    /// The fields of 41 bytes.
+    pub fn of(bytes: &[u8]) -> Fields {
+        let pair = |at: usize| u16::from_le_bytes([bytes[at], bytes[at + 1]]);
+        let eight = |at: usize| u64::from_le_bytes(bytes[at..at + 8].try_into().expect("eight bytes"));
+        Fields {
+            form: bytes[0],
+            configuration: bytes[1..11].try_into().expect("ten bytes"),
+            h: eight(11),
+            dcr: eight(19),
+            lmd: pair(27),
+            si: pair(29),
+            c: pair(31) as i16,
+            volt: pair(33),
+            temp: pair(35),
+            ar: pair(37),
+            mode: bytes[39],
+            flags: bytes[40],
+        }
+    }
+
+    pub fn meaning(&self) -> Configuration {
+        Configuration { bytes: self.configuration }
+    }
+
+    pub fn full_charge(&self) -> i64 {
+        i64::from(self.lmd) * GRAINS_PER_COUNT
+    }
+
+    pub fn has_run(&self) -> bool {
+        self.flags & VDQ != 0
+    }
+
+    /// Sets VDQ and a drain, held within what is accepted.
+    pub fn set_run(&mut self, dcr: i64) {
+        self.flags |= VDQ;
+        self.dcr = dcr.clamp(0, GREATEST_DRAIN) as u64;
+    }
+
+    /// Sets the charge, held within what is accepted.
+    pub fn set_charge(&mut self, h: i64) {
+        self.h = h.clamp(0, self.full_charge()) as u64;
+    }
+}
+
+/// Fields that are accepted.
+pub fn valid(random: &mut Random) -> Fields {
+    let configuration = values::configuration(random);
+    let meaning = Configuration { bytes: configuration };
+    let lmd = match random.below(4) {
+        0 => random.pick(&[1, 2, 7, 8, 15, 16, 17, 32_768, 65_534, 65_535]),
+        1 => meaning.design_capacity() as u16,
+        _ => 1 + random.amount(65_534) as u16,
+    };
+    let c = counted(random, &meaning);
+    let flags = random.byte() & 0x17 | if c > 0 { CHGS } else { 0 };
+    let mut fields = Fields {
+        form: 1,
+        configuration,
+        h: 0,
+        dcr: 0,
+        lmd,
+        si: standby(random, &meaning),
+        c: c as i16,
+        volt: if random.one_in(5) { 0 } else { values::voltage(random, &meaning) as u16 },
+        temp: if random.one_in(5) { 0 } else { values::temperature(random, &meaning) as u16 },
+        ar: random.amount(65_535) as u16,
+        mode: random.byte(),
+        flags,
+    };
+    charge(random, &mut fields);
+    if fields.has_run() {
+        drain(random, &mut fields);
+    }
+    fields
+}
+
+/// 0, or a current beyond DMF.
+fn counted(random: &mut Random, configuration: &Configuration) -> i32 {
+    let least = configuration.dmf() + 1;
+    let amount = match random.below(4) {
+        0 => least,
+        1 => CURRENT_MAX,
+        _ => least + random.amount(i64::from(CURRENT_MAX - least)) as i32,
+    };
+    random.pick(&[0, amount, -amount, -amount])
+}
+
+fn standby(random: &mut Random, configuration: &Configuration) -> u16 {
+    let greatest = configuration.standby_limit();
+    match random.below(4) {
+        0 => 0,
+        1 => greatest as u16,
+        _ => random.range(0, i64::from(greatest)) as u16,
+    }
+}
+
+fn charge(random: &mut Random, fields: &mut Fields) {
+    let full = fields.full_charge();
+    let counts = random.range(0, i64::from(fields.lmd)) * GRAINS_PER_COUNT;
+    let h = match random.below(6) {
+        0 => 0,
+        1 => full,
+        2 => counts + random.range(-1, 1),
+        3 => random.amount(full),
+        _ => random.range(0, full),
+    };
+    fields.set_charge(h);
+}
+
+fn drain(random: &mut Random, fields: &mut Fields) {
+    let dcr = match random.below(5) {
+        0 => 0,
+        1 => GREATEST_DRAIN,
+        2 => GREATEST_DRAIN - random.amount(GRAINS_PER_COUNT * 40),
+        3 => random.amount(GREATEST_DRAIN),
+        _ => random.range(0, 9 * fields.full_charge() / 8),
+    };
+    fields.set_run(dcr);
+}

@@ -1,0 +1,148 @@
+//! Trials on gauges handed in, many of them aimed at the grain on which a rule turns.
+
+use crate::fields::{self, Fields};
+use crate::host;
+use crate::random::Random;
+use crate::trial::{Start, Trial};
+use crate::values;
+use reference::configuration::Configuration;
+use reference::history::Call;
+use reference::leak::{leak, w, GRAINS_PER_COUNT, GRAINS_PER_UNIT, GREATEST_DRAIN};
+use reference::refusal::VOLTAGE_MIN;
+
+/// Grains that teach one count: 15 × G / 16.
+const GRAINS_TAUGHT: i64 = 15 * GRAINS_PER_COUNT / 16;
+
+pub fn trial(random: &mut Random) -> Trial {
+    let mut fields = fields::valid(random);
+    let mut calls = vec![first_call(random, &mut fields)];
+    for _ in 0..random.below(4) {
+        calls.push(any_call(random, &fields.meaning()));
+    }
+    Trial { start: Start::Saved { bytes: fields.bytes(), accepted: Some(true) }, calls }
+}
+
+fn first_call(random: &mut Random, fields: &mut Fields) -> Call {
+    match random.below(8) {
+        0 => full(random, fields),
+        1 => empty(random, fields),
+        2 => passes(random, fields),
+        3 => learns(random, fields),
+        4 => passes_in_rest(random, fields),
+        5 => command(random, fields),
+        _ => any_call(random, &fields.meaning()),
+    }
+}
+
+/// Any of the four calls, in range or not.
+pub fn any_call(random: &mut Random, configuration: &Configuration) -> Call {
+    match random.below(8) {
+        0 => host::any_read(random),
+        1 => host::any_write(random),
+        2 => host::out_of_range(random, configuration),
+        3 => {
+            let windows = match random.below(60) {
+                0 => 16_875,
+                1 => random.range(1, 2_000) as u32,
+                _ => random.range(1, 6) as u32,
+            };
+            Call::Rest { windows, temperature: values::temperature(random, configuration) }
+        }
+        _ => Call::Window {
+            current: values::current(random, configuration),
+            voltage: values::voltage(random, configuration),
+            temperature: values::temperature(random, configuration),
+        },
+    }
+}
+
+/// The leak of the next window at t.
+fn leaked(fields: &Fields, t: i32) -> i64 {
+    leak(fields.h as i64, fields.meaning().sd(), w(t))
+}
+
+/// A charge that is this many grains after the leak of a window at t, where there is one.
+fn before_leak(fields: &mut Fields, t: i32, grains: i64) {
+    fields.set_charge(grains);
+    for _ in 0..2 {
+        let again = grains + leaked(fields, t);
+        fields.set_charge(again);
+    }
+}
+
+/// A charge to LMD × G, or one grain beside it.
+fn full(random: &mut Random, fields: &mut Fields) -> Call {
+    let configuration = fields.meaning();
+    let current = values::current(random, &configuration).abs();
+    let temperature = values::temperature(random, &configuration);
+    let c = i64::from(configuration.counted(current));
+    let target = fields.full_charge() - GRAINS_PER_UNIT * c + random.range(-1, 1);
+    before_leak(fields, temperature, target);
+    let voltage = values::voltage(random, &configuration);
+    Call::Window { current, voltage, temperature }
+}
+
+/// A discharge to 0 grains, or one grain beside it.
+fn empty(random: &mut Random, fields: &mut Fields) -> Call {
+    let configuration = fields.meaning();
+    let current = -values::current(random, &configuration).abs();
+    let temperature = values::temperature(random, &configuration);
+    let c = i64::from(configuration.counted(current));
+    before_leak(fields, temperature, -GRAINS_PER_UNIT * c + random.range(-1, 1));
+    let voltage = values::voltage(random, &configuration);
+    Call::Window { current, voltage, temperature }
+}
+
+/// A drain to 65,535 × G, or one grain beside it.
+fn passes(random: &mut Random, fields: &mut Fields) -> Call {
+    let configuration = fields.meaning();
+    let current = -values::current(random, &configuration).abs();
+    let temperature = values::temperature(random, &configuration);
+    let c = i64::from(configuration.counted(current));
+    let before = GREATEST_DRAIN - leaked(fields, temperature) + GRAINS_PER_UNIT * c;
+    fields.set_run(before + random.range(-1, 1));
+    let voltage = values::voltage(random, &configuration);
+    Call::Window { current, voltage, temperature }
+}
+
+/// A window at E1 whose run teaches a whole number of counts, or one grain beside it.
+fn learns(random: &mut Random, fields: &mut Fields) -> Call {
+    let configuration = fields.meaning();
+    let heavy = random.range(-1, 20) + random.amount(27_000);
+    let current = -(i64::from(configuration.standby_limit()) + heavy).clamp(1, 28_011) as i32;
+    let cold = configuration.cold_limit();
+    let temperature = cold - 1 + random.amount(i64::from(1_373 - cold)) as i32;
+    let old = i64::from(fields.lmd);
+    let taught = match random.below(4) {
+        0 => old - old / 8,
+        1 => random.pick(&[65_534, 65_535, 65_536]),
+        2 => old,
+        _ => random.amount(65_535),
+    };
+    let c = i64::from(configuration.counted(current));
+    let before = taught * GRAINS_TAUGHT - leaked(fields, temperature) + GRAINS_PER_UNIT * c;
+    fields.set_run(before + random.range(-1, 1));
+    let voltage = configuration.e1() - random.amount(40) as i32;
+    Call::Window { current, voltage: voltage.max(VOLTAGE_MIN), temperature }
+}
+
+/// A rest of a few windows, in which the drain comes to 65,535 × G or one grain beside it.
+fn passes_in_rest(random: &mut Random, fields: &mut Fields) -> Call {
+    let temperature = values::temperature(random, &fields.meaning());
+    let windows = random.range(1, 5);
+    let drain = windows * leaked(fields, temperature);
+    fields.set_run(GREATEST_DRAIN - drain + random.range(-1, 1));
+    Call::Rest { windows: windows as u32 + random.below(2) as u32, temperature }
+}
+
+/// A key at CTRL with an AR near LMD or NAC.
+fn command(random: &mut Random, fields: &mut Fields) -> Call {
+    let nac = (fields.h as i64 / GRAINS_PER_COUNT) as u16;
+    let near = random.pick(&[fields.lmd, nac, 0, 1, 65_535]);
+    fields.ar = near.wrapping_add(random.pick(&[0, 1, 65_535]));
+    fields.mode = random.pick(&[0x20, 0x10, 0x08, 0x02, 0x01, 0x00]) | random.pick(&[0, 0, 0xC4, 0x04]);
+    if random.one_in(4) {
+        fields.mode = random.byte();
+    }
+    Call::Write { address: 0x00, value: random.pick(&[0xA9, 0xA9, 0x56, 0x56, 0x57]) }
+}

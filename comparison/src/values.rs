@@ -1,0 +1,102 @@
+//! Configurations and arguments at random, the edges of every rule and range favoured.
+
+use crate::random::Random;
+use reference::bench::BENCH_PACK;
+use reference::configuration::Configuration;
+use reference::refusal::{CURRENT_MAX, TEMPERATURE_MAX, TEMPERATURE_MIN, VOLTAGE_MAX, VOLTAGE_MIN};
+
+/// The bench pack, that pack with some bytes changed, extremes, or any bytes. ILMD is never 0.
+pub fn configuration(random: &mut Random) -> [u8; 10] {
+    let mut bytes = match random.below(8) {
+        0 | 1 => BENCH_PACK,
+        2 => std::array::from_fn(|_| random.byte()),
+        _ => extremes(random),
+    };
+    if bytes[0] == 0 {
+        bytes[0] = random.pick(&[1, 255]);
+    }
+    bytes
+}
+
+/// The bench pack with a few bytes at their least or greatest, or near the thresholds of others.
+fn extremes(random: &mut Random) -> [u8; 10] {
+    let choices: [&[u8]; 10] = [
+        &[1, 2, 4, 40, 254, 255],
+        &[0, 69, 94, 150, 255],
+        &[0, 70, 119, 160, 255],
+        &[0, 1, 5, 100, 255],
+        &[0x00, 0xFF, 0xF0, 0x0F, 0x21, 0x2F],
+        &[0, 1, 16, 255],
+        &[0x00, 0x01, 0x02, 0x03, 0x80, 0x82, 0xFF],
+        &[0x00, 0xFF],
+        &[0x00, 0x6C, 0xF8, 0xFF, 0x07],
+        &[0x00, 0x15, 0x07, 0xF8, 0xFF],
+    ];
+    let mut bytes = BENCH_PACK;
+    for (byte, values) in bytes.iter_mut().zip(choices) {
+        if random.one_in(3) {
+            *byte = random.pick(values);
+        } else if random.one_in(8) {
+            *byte = random.byte();
+        }
+    }
+    bytes
+}
+
+/// A current in range.
+pub fn current(random: &mut Random, configuration: &Configuration) -> i32 {
+    let amount = match random.below(10) {
+        0 => configuration.dmf() + random.range(0, 1) as i32,
+        1 => configuration.standby_limit() + random.range(-1, 1) as i32,
+        2 => 2 * configuration.taper() + random.range(0, 1) as i32,
+        3 => CURRENT_MAX - random.range(0, 1) as i32,
+        4 => random.range(0, i64::from(CURRENT_MAX)) as i32,
+        _ => random.amount(i64::from(CURRENT_MAX)) as i32,
+    };
+    let sign = if random.one_in(3) { 1 } else { -1 };
+    sign * amount.clamp(0, CURRENT_MAX)
+}
+
+/// A voltage in range.
+pub fn voltage(random: &mut Random, configuration: &Configuration) -> i32 {
+    let near = random.range(-1, 1) as i32;
+    let voltage = match random.below(8) {
+        0 => configuration.edvf() + near,
+        1 => configuration.e1() + near,
+        2 => 4_100 + near,
+        3 => VOLTAGE_MIN + near,
+        4 => VOLTAGE_MAX + near,
+        _ => random.range(i64::from(VOLTAGE_MIN), i64::from(VOLTAGE_MAX)) as i32,
+    };
+    voltage.clamp(VOLTAGE_MIN, VOLTAGE_MAX)
+}
+
+/// A temperature in range.
+pub fn temperature(random: &mut Random, configuration: &Configuration) -> i32 {
+    let temperature = match random.below(6) {
+        0 => configuration.cold_limit() - random.range(0, 1) as i32,
+        1 => 1_092 + 40 * random.range(0, 6) as i32 - random.range(0, 1) as i32,
+        2 => random.pick(&[TEMPERATURE_MIN, TEMPERATURE_MAX]),
+        3 => 1_192,
+        _ => random.range(i64::from(TEMPERATURE_MIN), i64::from(TEMPERATURE_MAX)) as i32,
+    };
+    temperature.clamp(TEMPERATURE_MIN, TEMPERATURE_MAX)
+}
+
+/// A number beyond a range, by one or by any amount in 32 bits.
+pub fn beyond(random: &mut Random, least: i32, greatest: i32) -> i32 {
+    loop {
+        let number = match random.below(6) {
+            0 => greatest + 1,
+            1 => least - 1,
+            2 => random.pick(&[i32::MIN, i32::MIN + 1, i32::MAX, i32::MAX - 1]),
+            // What would be in range if a 16-bit number were made of it.
+            3 => (random.pick(&[-1, 1, 2, 16]) << 16) + random.range(i64::from(least), i64::from(greatest)) as i32,
+            4 => random.pick(&[0, -1, 1]),
+            _ => random.next() as i32,
+        };
+        if number < least || number > greatest {
+            return number;
+        }
+    }
+}

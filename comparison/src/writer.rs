@@ -1,0 +1,107 @@
+//! Writes a list of calls. It follows the history while writing, so that it can aim at what the rules turn on.
+
+use crate::random::Random;
+use crate::trial::{Start, Trial};
+use crate::values;
+use reference::configuration::Configuration;
+use reference::history::{Call, History};
+use reference::leak::{leak, w, GRAINS_PER_COUNT, GRAINS_PER_UNIT};
+use reference::refusal::{CURRENT_MAX, VOLTAGE_MAX, VOLTAGE_MIN};
+
+pub struct Writer {
+    pub random: Random,
+    pub configuration: Configuration,
+    pub history: History,
+    pub calls: Vec<Call>,
+}
+
+impl Writer {
+    pub fn new(mut random: Random) -> Writer {
+        let bytes = values::configuration(&mut random);
+        let configuration = Configuration::new(&bytes).expect("ILMD above 0");
+        Writer { random, configuration, history: History::opened(configuration), calls: Vec::new() }
+    }
+
+    pub fn trial(self) -> Trial {
+        Trial { start: Start::Opened(self.configuration.bytes), calls: self.calls }
+    }
+
+    pub fn call(&mut self, call: Call) {
+        // A refused call stays in the list like any other.
+        let _ = self.history.call(&call);
+        self.calls.push(call);
+    }
+
+    pub fn window(&mut self, current: i32, voltage: i32, temperature: i32) {
+        self.call(Call::Window { current, voltage, temperature });
+    }
+
+    pub fn write(&mut self, address: u32, value: u8) {
+        self.call(Call::Write { address, value });
+    }
+
+    /// AR, MODE and the key: a whole command of the host.
+    pub fn command(&mut self, ar: Option<i64>, mode: u8, key: u8) {
+        if let Some(ar) = ar {
+            let [low, high] = (ar.clamp(0, 65_535) as u16).to_le_bytes();
+            self.write(0x02, low);
+            self.write(0x03, high);
+        }
+        self.write(0x01, mode);
+        self.write(0x00, key);
+    }
+
+    /// A run starts, by DONE or by a charge that tapers off.
+    pub fn start_run(&mut self) {
+        let taper = 2 * self.configuration.taper();
+        if taper > self.configuration.dmf() && self.random.one_in(2) {
+            let current = self.random.range(i64::from(self.configuration.dmf()) + 1, i64::from(taper)) as i32;
+            let voltage = self.random.range(4_100, 4_500) as i32;
+            let temperature = self.temperature();
+            self.window(current, voltage, temperature);
+        } else {
+            self.command(None, 0x10, 0xA9);
+        }
+    }
+
+    pub fn temperature(&mut self) -> i32 {
+        values::temperature(&mut self.random, &self.configuration)
+    }
+
+    /// A discharge above 2 × S0, as a positive amount.
+    pub fn heavy(&mut self) -> i32 {
+        let least = self.configuration.standby_limit().max(self.configuration.dmf()) + 1;
+        let more = self.random.amount(i64::from(CURRENT_MAX - least)) as i32;
+        least + more
+    }
+
+    /// A voltage above E1, where a discharge only counts.
+    pub fn voltage_above_e1(&mut self) -> i32 {
+        let least = (self.configuration.e1() + 1).max(VOLTAGE_MIN);
+        self.random.range(i64::from(least), i64::from(VOLTAGE_MAX)) as i32
+    }
+
+    /// A voltage at which step 4 asks for E1 and not for EDVF, where the configuration has one in range.
+    pub fn voltage_at_e1(&mut self) -> i32 {
+        let least = (self.configuration.edvf() + 1).max(VOLTAGE_MIN);
+        let greatest = self.configuration.e1().max(VOLTAGE_MIN);
+        match self.random.below(3) {
+            0 => least,
+            1 => greatest,
+            _ => self.random.range(i64::from(least), i64::from(greatest)) as i32,
+        }
+    }
+
+    /// The amount of charging current that just reaches a full charge in the next window at t.
+    pub fn charge_to_full(&self, t: i32) -> i64 {
+        let full = i64::from(self.history.l) * GRAINS_PER_COUNT;
+        let missing = full - self.history.h() + leak(self.history.h(), self.configuration.sd(), w(t));
+        (missing + GRAINS_PER_UNIT - 1) / GRAINS_PER_UNIT
+    }
+
+    /// The amount of discharging current that just empties the cell in the next window at t.
+    pub fn discharge_to_empty(&self, t: i32) -> i64 {
+        let held = self.history.h() - leak(self.history.h(), self.configuration.sd(), w(t));
+        (held + GRAINS_PER_UNIT - 1) / GRAINS_PER_UNIT
+    }
+}
