@@ -1,26 +1,29 @@
--- What a measured number's case says in the paper's numbers. Assumes nothing.
-use mathlib.Core.Bool.{Bool, true, false}
-use mathlib.Core.Path.{_≡_, refl, ap, _∙_}
-use Prim.Native.Nat.{ℕ}
-use lib.IntN.{ℤ}
-use Rattle.cell.specs.Choose.{choose}
-use Rattle.cell.specs.Sample.{between, measured, measuredNumber, measuredValue}
-use Rattle.cell.specs.Signed.{magnitude}
-use Rattle.cell.specs.declared.sample.Measured.{Measured}
-use Rattle.cell.specs.declared.sample.Measured.the-variants.{Within, OutOfRange}
+-- A number between two limits, told of the number or 0 where it is below. Assumes nothing.
+use mathlib.Core.Bool.{Bool, true, false, _&&_}
+use mathlib.Core.Path.{_≡_, refl, sym, subst}
+use Prim.Native.Nat.{ℕ, _≤_, _<_}
+use lib.Dec.{T, leb}
+use lib.IntN.{ℤ, pos, negsuc}
+use borrow.Author.Tests.{leb-true, lt-leb}
+use Rattle.cell.specs.Sample.{between, valueBetween}
+use Rattle.cell.specs.Signed.{atLeastZero, magnitude}
 
-number-chosen : (number x : ℕ) (test : Bool) → measuredNumber number (choose test (Within x) OutOfRange) ≡ choose test 0 number
-number-chosen number x true = refl
-number-chosen number x false = refl
+pub between-is : (least most : ℕ) (x : ℤ) → 0 < least → (leb least (atLeastZero x) && leb (atLeastZero x) most) ≡ between least most x
+unfolding between
+between-is least most (pos n) p = refl
+between-is least most (negsuc n) p = simp (lt-leb least 0 p)
 
-value-chosen : (x : ℕ) (test : Bool) → measuredValue (choose test (Within x) OutOfRange) ≡ choose test x 0
-value-chosen x true = refl
-value-chosen x false = refl
+second-true : (a b : Bool) → (a && b) ≡ true → b ≡ true
+second-true true b e = e
+second-true false b e = absurd (subst T (sym e) tt)
 
-pub measured-number : (number least most : ℕ) (x : ℤ) (r : Measured) → r ≡ measured least most x
-    → measuredNumber number r ≡ choose (between least most x) 0 number
-measured-number number least most x r e = ap (measuredNumber number) e ∙ number-chosen number (magnitude x) (between least most x)
+-- between its limits a number is not below 0
+pub value-is : (least most : ℕ) (x : ℤ) → between least most x ≡ true → atLeastZero x ≡ valueBetween least most x
+unfolding between valueBetween
+value-is least most (pos n) e = simp e
+value-is least most (negsuc n) e = absurd (subst T (sym e) tt)
 
-pub measured-value : (least most : ℕ) (x : ℤ) (r : Measured) → r ≡ measured least most x
-    → measuredValue r ≡ choose (between least most x) (magnitude x) 0
-measured-value least most x r e = ap measuredValue e ∙ value-chosen (magnitude x) (between least most x)
+pub value-low : (least most : ℕ) (x : ℤ) → between least most x ≡ true → atLeastZero x ≤ most
+unfolding between
+value-low least most (pos n) e = leb-true n most (second-true (leb least n) (leb n most) e)
+value-low least most (negsuc n) e = absurd (subst T (sym e) tt)

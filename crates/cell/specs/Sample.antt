@@ -7,10 +7,6 @@ use Rattle.cell.specs.Choose.{choose}
 use Rattle.cell.specs.Current.{noCurrent}
 use Rattle.cell.specs.Signed.{negative, magnitude}
 use Rattle.cell.specs.declared.current.Current.{Current}
-use Rattle.cell.specs.declared.sample.Measured.{Measured}
-use Rattle.cell.specs.declared.sample.Measured.the-variants as Measured′
-use Rattle.cell.specs.declared.sample.Sensed.{Sensed}
-use Rattle.cell.specs.declared.sample.Sensed.the-variants as Sensed′
 
 -- ---- the ranges
 
@@ -52,31 +48,11 @@ currentOf a = record { charging = not (negative a) && ltb 0 (magnitude a); magni
 abbrev pub current : ℤ → Current
 current a = choose (currentInRange a) (currentOf a) noCurrent
 
+unfoldable pub valueBetween : ℕ → ℕ → ℤ → ℕ
+valueBetween least most x = choose (between least most x) (magnitude x) 0
+
 abbrev pub voltage : ℤ → ℕ
-voltage v = choose (voltageInRange v) (magnitude v) 0
+voltage v = valueBetween 2_600 4_500 v
 
 abbrev pub temperature : ℤ → ℕ
-temperature t = choose (temperatureInRange t) (magnitude t) 0
-
--- ---- the paper's number and value of each case of the answers
-
-abbrev pub sensedNumber : Sensed → ℕ
-sensedNumber (Sensed′.Within c) = 0
-sensedNumber Sensed′.OutOfRange = 3
-
-abbrev pub sensedCurrent : Sensed → Current
-sensedCurrent (Sensed′.Within c) = c
-sensedCurrent Sensed′.OutOfRange = noCurrent
-
--- the refusal's number is 4 for a voltage and 5 for a temperature
-abbrev pub measuredNumber : ℕ → Measured → ℕ
-measuredNumber number (Measured′.Within x) = 0
-measuredNumber number Measured′.OutOfRange = number
-
-abbrev pub measuredValue : Measured → ℕ
-measuredValue (Measured′.Within x) = x
-measuredValue Measured′.OutOfRange = 0
-
--- what a number measured between two limits is
-abbrev pub measured : ℕ → ℕ → ℤ → Measured
-measured least most x = choose (between least most x) (Measured′.Within (magnitude x)) Measured′.OutOfRange
+temperature t = valueBetween 1_012 1_372 t

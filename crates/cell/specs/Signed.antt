@@ -2,6 +2,7 @@
 use mathlib.Core.Bool.{Bool, true, false}
 use Prim.Native.Nat.{ℕ, suc}
 use lib.IntN.{ℤ, pos, negsuc}
+use Rattle.cell.specs.Choose.{choose}
 use Rattle.cell.specs.declared.signed.Signed.{Signed}
 
 -- below 0
@@ -16,3 +17,7 @@ magnitude (negsuc n) = suc n
 
 abbrev pub takenApart : ℤ → Signed
 takenApart x = record { negative = negative x; magnitude = magnitude x }
+
+-- the number, or 0 where it is below
+abbrev pub atLeastZero : ℤ → ℕ
+atLeastZero x = choose (negative x) 0 (magnitude x)

@@ -1,65 +1,83 @@
-// The input of a window: each number handed in is within its range, taken apart, or out of range.
+// The input of a window: whether each number handed in is in its range, and its value there; out of range it is 0.
 ghost use mathlib.Core.Path.{_≡_};
+ghost use Prim.Native.Nat.{_<_};
 ghost use Rattle.cell.specs.Sample as Spec;
 use crate::current::Current;
+use crate::signed::at_least_zero;
 use crate::signed::take_apart;
 
-// Current a, units.
-pub enum Sensed {
-    Within(Current),
-    OutOfRange,
+// "current a (units, positive charging, −28,011 to 28,011)".
+pub fn current_in_range(a: i32) -> bool
+    ensures { λ r. ⌜ r ≡ Spec.currentInRange a ⌝ }
+{
+    take_apart(a).magnitude <= 28_011
 }
 
-// Voltage v, mV, or temperature t, quarter kelvins.
-pub enum Measured {
-    Within(u16),
-    OutOfRange,
+// From a least above 0 to the most, both included.
+fn between(least: u16, most: u16, number: i32) -> bool
+    requires { ⌜ 0 < least ⌝ }
+    ensures { λ r. ⌜ r ≡ Spec.between least most number ⌝ }
+{
+    let value = at_least_zero(number);
+    if value < least as u32 {
+        return false;
+    }
+    value <= most as u32
 }
 
-pub fn sensed_current(a: i32) -> Sensed
-    ensures { λ r. ⌜ (Spec.sensedNumber r ≡ Spec.currentRefusal a) × (Spec.sensedCurrent r ≡ Spec.current a) ⌝ }
+// "voltage v (2,600 to 4,500 mV)".
+pub fn voltage_in_range(v: i32) -> bool
+    ensures { λ r. ⌜ r ≡ Spec.voltageInRange v ⌝ }
+{
+    between(2_600, 4_500, v)
+}
+
+// "temperature t (1,012 to 1,372 quarter kelvins)".
+pub fn temperature_in_range(t: i32) -> bool
+    ensures { λ r. ⌜ r ≡ Spec.temperatureInRange t ⌝ }
+{
+    between(1_012, 1_372, t)
+}
+
+// a by direction and magnitude.
+pub fn current(a: i32) -> Current
+    ensures { λ r. ⌜ r ≡ Spec.current a ⌝ }
 {
     let apart = take_apart(a);
     if 28_011 < apart.magnitude {
-        return Sensed::OutOfRange;
+        return Current::none();
     }
     let magnitude = apart.magnitude as u16;
     if apart.negative {
-        return Sensed::Within(Current {
+        return Current {
             charging: false,
             magnitude,
-        });
+        };
     }
-    Sensed::Within(Current {
+    Current {
         charging: 0 < magnitude,
         magnitude,
-    })
+    }
 }
 
-fn within_limits(number: i32, least: u16, most: u16) -> Measured
-    ensures { λ r. ⌜ r ≡ Spec.measured least most number ⌝ }
+fn value_between(least: u16, most: u16, number: i32) -> u16
+    requires { ⌜ 0 < least ⌝ }
+    ensures { λ r. ⌜ r ≡ Spec.valueBetween least most number ⌝ }
 {
-    let apart = take_apart(number);
-    if apart.negative {
-        return Measured::OutOfRange;
+    if !between(least, most, number) {
+        return 0;
     }
-    if apart.magnitude < least as u32 {
-        return Measured::OutOfRange;
-    }
-    if (most as u32) < apart.magnitude {
-        return Measured::OutOfRange;
-    }
-    Measured::Within(apart.magnitude as u16)
+    at_least_zero(number) as u16
 }
 
-pub fn measured_voltage(v: i32) -> Measured
-    ensures { λ r. ⌜ (Spec.measuredNumber 4 r ≡ Spec.voltageRefusal v) × (Spec.measuredValue r ≡ Spec.voltage v) ⌝ }
+pub fn voltage(v: i32) -> u16
+    ensures { λ r. ⌜ r ≡ Spec.voltage v ⌝ }
 {
-    within_limits(v, 2_600, 4_500)
+    value_between(2_600, 4_500, v)
 }
 
-pub fn measured_temperature(t: i32) -> Measured
-    ensures { λ r. ⌜ (Spec.measuredNumber 5 r ≡ Spec.temperatureRefusal t) × (Spec.measuredValue r ≡ Spec.temperature t) ⌝ }
+pub fn temperature(t: i32) -> u16
+    ensures { λ r. ⌜ r ≡ Spec.temperature t ⌝ }
 {
-    within_limits(t, 1_012, 1_372)
+    value_between(1_012, 1_372, t)
 }

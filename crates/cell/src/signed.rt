@@ -21,3 +21,13 @@ pub fn take_apart(number: i32) -> Signed
         magnitude: number as u32,
     }
 }
+
+// The number, or 0 where it is below.
+pub fn at_least_zero(number: i32) -> u32
+    ensures { λ r. ⌜ r ≡ Spec.atLeastZero number ⌝ }
+{
+    if number < 0 {
+        return 0;
+    }
+    number as u32
+}

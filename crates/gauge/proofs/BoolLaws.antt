@@ -16,5 +16,13 @@ and-right false b e = absurd-of e
 pub and-both : (a b : Bool) → a ≡ true → b ≡ true → (a && b) ≡ true
 and-both a b p q = simp (p, q)
 
+pub and-true : (a : Bool) → (a && true) ≡ a
+and-true true = refl
+and-true false = refl
+
+pub and-false : (a : Bool) → (a && false) ≡ false
+and-false true = refl
+and-false false = refl
+
 pub not-is-true : (a : Bool) → a ≡ false → not a ≡ true
 not-is-true a p = simp p

@@ -3,3 +3,4 @@ pub mod BoolLaws
 pub mod CommandLaws
 pub mod ElementLaws
 pub mod RestLaws
+pub mod WindowLaws

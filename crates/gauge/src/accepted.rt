@@ -40,13 +40,16 @@ fn charge_accepted(charge: Charge) -> bool
 fn current_accepted(dmf: u8, current: Current) -> bool
     ensures { λ r. ⌜ r ≡ Spec.currentAccepted dmf current ⌝ }
 {
+    if 28_011 < current.magnitude {
+        return false;
+    }
+    if (dmf as u16) < current.magnitude {
+        return true;
+    }
     if current.magnitude == 0 {
         return !current.charging;
     }
-    if current.magnitude <= dmf as u16 {
-        return false;
-    }
-    current.magnitude <= 28_011
+    false
 }
 
 fn zero_or_between(least: u16, most: u16, value: u16) -> bool

@@ -7,11 +7,12 @@ use crate::command::decision_number;
 use crate::host::Host;
 use crate::state::Gauge;
 use cell::configuration::dmf;
-use cell::sample::Measured;
-use cell::sample::Sensed;
-use cell::sample::measured_temperature;
-use cell::sample::measured_voltage;
-use cell::sample::sensed_current;
+use cell::sample::current;
+use cell::sample::current_in_range;
+use cell::sample::temperature;
+use cell::sample::temperature_in_range;
+use cell::sample::voltage;
+use cell::sample::voltage_in_range;
 
 impl Host {
     // A byte at MODE (1), AR low (2) or AR high (3).
@@ -45,18 +46,18 @@ impl Gauge {
         if !gauge.accepted() {
             return Answer { number: 14, gauge };
         }
-        let Sensed::Within(current) = sensed_current(a) else {
+        if !current_in_range(a) {
             return Answer { number: 3, gauge };
-        };
-        let Measured::Within(voltage) = measured_voltage(v) else {
+        }
+        if !voltage_in_range(v) {
             return Answer { number: 4, gauge };
-        };
-        let Measured::Within(temperature) = measured_temperature(t) else {
+        }
+        if !temperature_in_range(t) {
             return Answer { number: 5, gauge };
-        };
+        }
         let configuration = gauge.configuration;
-        let counted = current.counted(dmf(configuration));
-        let stepped = gauge.stepped(counted, voltage, temperature);
+        let counted = current(a).counted(dmf(configuration));
+        let stepped = gauge.stepped(counted, voltage(v), temperature(t));
         Answer {
             number: 0,
             gauge: stepped,
@@ -77,10 +78,10 @@ impl Gauge {
         if 16_875 < windows {
             return Answer { number: 6, gauge };
         }
-        let Measured::Within(temperature) = measured_temperature(t) else {
+        if !temperature_in_range(t) {
             return Answer { number: 5, gauge };
-        };
-        let rested = gauge.rested(windows, temperature);
+        }
+        let rested = gauge.rested(windows, temperature(t));
         Answer {
             number: 0,
             gauge: rested,

@@ -40,11 +40,12 @@ pub(crate) fn ending_of(
     if discharge == 0 {
         return Ending::Above;
     }
-    if voltage <= edvf(configuration) {
-        return Ending::Edvf;
-    }
+    // E1 lies above EDVF, so most windows are done with here.
     if e1(configuration) < voltage {
         return Ending::Above;
+    }
+    if voltage <= edvf(configuration) {
+        return Ending::Edvf;
     }
     if !vdq {
         return Ending::Edv1;

@@ -1,5 +1,7 @@
 // What the registers show beside the charge: the last sample, the standby current and the flags, and what each rule does to them.
+ghost use mathlib.Core.Bool.{false};
 ghost use mathlib.Core.Path.{_≡_};
+ghost use Rattle.cell.specs.Choose.{choose};
 ghost use Rattle.gauge.specs.Shown as Spec;
 use crate::ending::Ending;
 use cell::current::Current;
@@ -38,10 +40,8 @@ impl Shown {
     pub(crate) fn charging_cleared(self) -> Shown
         ensures { λ r. ⌜ r ≡ Spec.chargingCleared self ⌝ }
     {
-        if self.current.charging {
-            return self.flags(false, false);
-        }
-        self
+        let charging = self.current.charging;
+        self.flags(unless(charging, self.edv1), unless(charging, self.edvf))
     }
 
     // The end-of-discharge flags, put as they are given.
@@ -104,6 +104,16 @@ impl Shown {
             edvf: self.edvf,
         }
     }
+}
+
+// A flag, cleared where the test holds.
+fn unless(test: bool, flag: bool) -> bool
+    ensures { λ r. ⌜ r ≡ choose test false flag ⌝ }
+{
+    if test {
+        return false;
+    }
+    flag
 }
 
 fn averaged_standby(s0: u16, standby: u16, discharge: u16) -> u16

@@ -1,5 +1,4 @@
 -- The 41 bytes laid out from the fields' bytes. Assumes nothing.
-use mathlib.Core.Bool.{Bool, true, false, _&&_}
 use mathlib.Core.List.{List, [], _∷_, _++_}
 use mathlib.Core.Path.{_≡_, refl, sym, ap, _∙_, subst}
 use Prim.Native.Nat.{ℕ}
@@ -30,11 +29,3 @@ unfolding savedBytes
 copied-whole g bytes buffer after e l a =
     a ∙ ap (λ (s : List ℕ). take (length s) s ++ drop (length s) buffer) e
     ∙ ap (λ (s : List ℕ). savedBytes g ++ s) (ap (λ (n : ℕ). drop n buffer) (sym l) ∙ drop-length buffer)
-
-pub and-true : (a : Bool) → (a && true) ≡ a
-and-true true = refl
-and-true false = refl
-
-pub and-false : (a : Bool) → (a && false) ≡ false
-and-false true = refl
-and-false false = refl

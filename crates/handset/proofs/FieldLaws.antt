@@ -9,9 +9,8 @@ use Rattle.cell.specs.Choose.{choose}
 use Rattle.cell.specs.declared.current.Current.{Current}
 use Rattle.cell.proofs.EveryLaws.{at-each-below, everyBelow}
 use Rattle.gauge.specs.Accepted.{currentAccepted}
-use Rattle.gauge.proofs.BoolLaws.{and-left, and-right, and-both}
+use Rattle.gauge.proofs.BoolLaws.{and-left, and-right, and-both, and-false}
 use Rattle.registers.specs.Values.{flagAt, flagsByte}
-use Rattle.handset.proofs.EncodingLaws.{and-false}
 use Rattle.handset.specs.Form.{currentOf, flagSet, flagsFit, signedPair}
 
 -- ---- c

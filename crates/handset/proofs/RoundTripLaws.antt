@@ -16,7 +16,7 @@ use Rattle.gauge.specs.declared.state.Gauge.{Gauge}
 use Rattle.gauge.proofs.AcceptedLaws.{sound}
 use Rattle.gauge.proofs.BoolLaws.{and-left, and-right, and-both}
 use Rattle.registers.specs.Values.{flags, flagsByte}
-use Rattle.handset.specs.Form.{currentOf, flagSet, flagsFit, loadAnswer, loadRefusal, loadable, loaded, loadedCharge, loadedHost, loadedShown, rejectedAnswer, savedBytes, signedPair}
+use Rattle.handset.specs.Form.{currentOf, flagSet, flagsFit, formFits, loadAnswer, loadRefusal, loadable, loaded, loadedCharge, loadedHost, loadedShown, rejectedAnswer, savedBytes, signedPair}
 use Rattle.handset.specs.Little.{bytesAt, little, numberAt}
 use Rattle.handset.proofs.EncodingLaws.{laidOut, laid-out-alike}
 use Rattle.handset.proofs.FieldLaws.{byte-back, current-back, flags-back, pair-back, signed-fits}
@@ -88,34 +88,47 @@ module _ (g : Gauge) (f : Fits g) (a : currentAccepted (dmf (g .configuration)) 
       gauge-alike _ _ _ _ _ _ _ _ _ _ _ _ _ _ (g .host .mode) _ _ _ _ _ _ _ _ _ _ _ _
       c h d (b .vdq-back) l q v t i (b .ci-back) (b .edv1-back) (b .edvf-back) r
 
+  direction-saved : (currentOf (numberAt 2 31 (savedBytes g))) .charging ≡ g .shown .current .charging
+  unfolding loaded loadedShown
+  direction-saved = ap (λ (x : Gauge). x .shown .current .charging) loaded-saved
+
+  saved-fits : formFits (savedBytes g) ≡ true
+  unfolding formFits
+  saved-fits = rw (saved-length g, saved-form g, saved-flags g, direction-saved) (flags-fit g)
+
   -- and those bytes are accepted
   pub saved-loadable : accepted g ≡ true → loadable (savedBytes g) ≡ true
   unfolding loadable
-  saved-loadable e =
-      rw (saved-length g, saved-form g, saved-flags g, loaded-saved) (and-both (flagsFit (flags g) (g .shown .current .charging)) (accepted g) (flags-fit g) e)
+  saved-loadable e = rw (saved-fits, loaded-saved) e
+
+-- what bytes in the form are
+module _ (bytes : List ℕ) (f : formFits bytes ≡ true) where
+  fit : Bool
+  fit = flagsFit (getD bytes 40 0) ((currentOf (numberAt 2 31 bytes)) .charging)
+
+  pub form-length : length bytes ≡ 41
+  unfolding formFits fit
+  form-length = eqb-true (length bytes) 41 (and-left (eqb (length bytes) 41) (eqb (getD bytes 0 0) 1 && fit) f)
+
+  form-first : getD bytes 0 0 ≡ 1
+  unfolding formFits fit
+  form-first =
+      eqb-true (getD bytes 0 0) 1
+      (and-left (eqb (getD bytes 0 0) 1) fit (and-right (eqb (length bytes) 41) (eqb (getD bytes 0 0) 1 && fit) f))
+
+  form-flags : flagsFit (getD bytes 40 0) ((currentOf (numberAt 2 31 bytes)) .charging) ≡ true
+  unfolding formFits fit
+  form-flags = and-right (eqb (getD bytes 0 0) 1) fit (and-right (eqb (length bytes) 41) (eqb (getD bytes 0 0) 1 && fit) f)
+
+pub loadable-form : (bytes : List ℕ) → loadable bytes ≡ true → formFits bytes ≡ true
+unfolding loadable
+loadable-form bytes e = and-left (formFits bytes) (accepted (loaded bytes)) e
 
 -- saving what was loaded gives the same bytes
-module _ (bytes : List ℕ) (small : (k : ℕ) → getD bytes k 0 < 256) (e : loadable bytes ≡ true) where
-  fit : Bool
-  fit = flagsFit (getD bytes 40 0) ((loaded bytes) .shown .current .charging)
-
-  first-is : getD bytes 0 0 ≡ 1
-  unfolding loadable fit
-  first-is =
-      eqb-true (getD bytes 0 0) 1
-      (and-left (eqb (getD bytes 0 0) 1) (fit && accepted (loaded bytes))
-      (and-right (eqb (length bytes) 41) (eqb (getD bytes 0 0) 1 && (fit && accepted (loaded bytes))) e))
-
-  fit-is : flagsFit (getD bytes 40 0) ((loaded bytes) .shown .current .charging) ≡ true
-  unfolding loadable fit
-  fit-is =
-      and-left fit (accepted (loaded bytes))
-      (and-right (eqb (getD bytes 0 0) 1) (fit && accepted (loaded bytes))
-      (and-right (eqb (length bytes) 41) (eqb (getD bytes 0 0) 1 && (fit && accepted (loaded bytes))) e))
-
+module _ (bytes : List ℕ) (small : (k : ℕ) → getD bytes k 0 < 256) (f : formFits bytes ≡ true) where
   flags-are : flags (loaded bytes) ≡ getD bytes 40 0
   unfolding flags loaded loadedShown loadedCharge
-  flags-are = byte-back (getD bytes 40 0) ((loaded bytes) .shown .current .charging) (small 40) fit-is
+  flags-are = byte-back (getD bytes 40 0) ((loaded bytes) .shown .current .charging) (small 40) (form-flags bytes f)
 
   pub saved-loaded : savedBytes (loaded bytes) ≡ bytesAt 41 0 bytes
   unfolding loaded loadedCharge loadedShown loadedHost savedBytes laidOut
@@ -125,7 +138,7 @@ module _ (bytes : List ℕ) (small : (k : ℕ) → getD bytes k 0 < 256) (e : lo
       (write-back 8 11 bytes small) (write-back 8 19 bytes small) (write-back 2 27 bytes small) (write-back 2 29 bytes small)
       (ap (little 2) (pair-back (numberAt 2 31 bytes) (number-fits 31 bytes small)) ∙ write-back 2 31 bytes small)
       (write-back 2 33 bytes small) (write-back 2 35 bytes small) (write-back 2 37 bytes small) flags-are
-      ∙ ap (λ (n : ℕ). n ∷ bytesAt 40 1 bytes) (sym first-is)
+      ∙ ap (λ (n : ℕ). n ∷ bytesAt 40 1 bytes) (sym (form-first bytes f))
 
 -- ---- in the calls' terms
 
@@ -165,14 +178,10 @@ loaded-where-0 bytes answer e z = go (loadable bytes) refl e
         absurd f
 
 pub loadable-length : (bytes : List ℕ) → loadable bytes ≡ true → length bytes ≡ 41
-unfolding loadable
-loadable-length bytes e =
-    eqb-true (length bytes) 41
-    (and-left (eqb (length bytes) 41)
-    (eqb (getD bytes 0 0) 1 && (flagsFit (getD bytes 40 0) ((loaded bytes) .shown .current .charging) && accepted (loaded bytes))) e)
+loadable-length bytes e = form-length bytes (loadable-form bytes e)
 
 -- loaded and saved again, accepted bytes are the same
 pub resaved-bytes : (bytes after : List ℕ) (g : Gauge) → ((k : ℕ) → getD bytes k 0 < 256) → loadable bytes ≡ true → g ≡ loaded bytes
     → after ≡ savedBytes g → after ≡ bytes
 resaved-bytes bytes after g small e p q =
-    q ∙ ap savedBytes p ∙ saved-loaded bytes small e ∙ whole 41 bytes (loadable-length bytes e)
+    q ∙ ap savedBytes p ∙ saved-loaded bytes small (loadable-form bytes e) ∙ whole 41 bytes (loadable-length bytes e)

@@ -1,7 +1,7 @@
 -- The calls from C on the saved bytes: the number and every byte of every lent buffer. 14 is tested first, success is 0, and a
 -- refusal changes no byte. Definitions only; assumes nothing.
 use mathlib.Core.List.{List}
-use Prim.Native.Nat.{ℕ}
+use Prim.Native.Nat.{ℕ, _+_}
 use lib.Dec.{eqb}
 use lib.IntN.{ℤ}
 use lib.ListN.{length}
@@ -12,7 +12,7 @@ use Rattle.gauge.specs.Opening.{openRefusal, opened}
 use Rattle.gauge.specs.declared.answer.Answer.{Answer}
 use Rattle.gauge.specs.declared.state.Gauge.{Gauge}
 use Rattle.registers.specs.Reading.{readRefusal, replyAfter}
-use Rattle.handset.specs.Form.{loadAnswer, savedBytes, savedLength}
+use Rattle.handset.specs.Form.{atAr, atMode, loadAnswer, savedBytes, savedLength}
 
 -- ---- a call that moves the gauge: "load, the proved call, save"
 
@@ -30,6 +30,10 @@ restCall windows t g = restAnswer g windows t
 
 abbrev pub writeCall : ℕ → ℕ → Gauge → Answer
 writeCall address value g = writeAnswer g address value
+
+-- where a host write's byte stands in the saved bytes: MODE, AR low, AR high
+unfoldable pub hostPlace : ℕ → ℕ
+hostPlace address = choose (eqb address 1) atMode (choose (eqb address 2) atAr (atAr + 1))
 
 -- ---- opening into a lent buffer: 1, 2, 13
 

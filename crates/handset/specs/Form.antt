@@ -136,12 +136,15 @@ loaded bytes =
 unfoldable pub flagsFit : ℕ → Bool → Bool
 flagsFit byte charging = eqb (byte / 32 % 4) 0 && (eqb (byte / 8 % 2) 0 && eqb (byte / 128) (flagAt 1 charging))
 
+-- "length 41, form 1", and the flags that a gauge value has no room for
+unfoldable pub formFits : List ℕ → Bool
+formFits bytes =
+    eqb (length bytes) savedLength
+    && (eqb (getD bytes 0 0) form && flagsFit (getD bytes atFlags 0) ((currentOf (numberAt 2 atCurrent bytes)) .charging))
+
 -- "Accepted exactly if: length 41, form 1, .."
 unfoldable pub loadable : List ℕ → Bool
-loadable bytes =
-    eqb (length bytes) savedLength
-    && (eqb (getD bytes 0 0) form
-    && (flagsFit (getD bytes atFlags 0) ((loaded bytes) .shown .current .charging) && accepted (loaded bytes)))
+loadable bytes = formFits bytes && accepted (loaded bytes)
 
 -- 14, "saved bytes or gauge value rejected"; rejected bytes hold no gauge, and the answer's is that of a refused opening
 unfoldable pub rejectedAnswer : Answer

@@ -1,9 +1,12 @@
 // The calls from C. Each loads the saved bytes, makes the proved call and saves; 14 is tested first, success is 0, and a refusal
-// changes no byte of any buffer.
+// changes no byte of any buffer. Bytes in the form hold a gauge value, and the proved call answers 14 where it is rejected, so
+// acceptance is tested once.
 ghost use mathlib.Core.Path.{_≡_};
+ghost use Prim.Native.Nat.{_≤_};
 ghost use lib.ListN.{length};
 ghost use Rattle.handset.specs.Calls as Spec;
-use crate::load::load;
+use crate::load::decoded;
+use crate::load::form_fits;
 use crate::save::store;
 use gauge::opening::open;
 use registers::read::read;
@@ -37,11 +40,10 @@ pub extern "C" fn gauge_window(
     ensures number { λ r. ⌜ r ≡ Spec.callNumber (now (saved .entry)) (Spec.windowCall current voltage temperature) ⌝ }
     ensures bytes { λ _. ⌜ now (saved .exit) ≡ Spec.callBytes (now (saved .entry)) (Spec.windowCall current voltage temperature) ⌝ }
 {
-    let loaded = load(saved);
-    if loaded.number != 0 {
-        return loaded.number;
+    if !form_fits(saved) {
+        return 14;
     }
-    let gauge = loaded.gauge;
+    let gauge = decoded(saved);
     let answer = gauge.window(current, voltage, temperature);
     if answer.number != 0 {
         return answer.number;
@@ -57,11 +59,10 @@ pub extern "C" fn gauge_rest(saved: &mut [u8], windows: u32, temperature: i32) -
     ensures number { λ r. ⌜ r ≡ Spec.callNumber (now (saved .entry)) (Spec.restCall windows temperature) ⌝ }
     ensures bytes { λ _. ⌜ now (saved .exit) ≡ Spec.callBytes (now (saved .entry)) (Spec.restCall windows temperature) ⌝ }
 {
-    let loaded = load(saved);
-    if loaded.number != 0 {
-        return loaded.number;
+    if !form_fits(saved) {
+        return 14;
     }
-    let gauge = loaded.gauge;
+    let gauge = decoded(saved);
     let answer = gauge.rest(windows, temperature);
     if answer.number != 0 {
         return answer.number;
@@ -71,20 +72,39 @@ pub extern "C" fn gauge_rest(saved: &mut [u8], windows: u32, temperature: i32) -
     0
 }
 
-// uint32_t gauge_write(uint8_t *saved, size_t saved_length, uint32_t address, uint8_t value): 14, 7 to 11.
+// Where the saved bytes hold the byte that a host write stores: MODE at 1, AR low at 2 or AR high at 3.
+fn host_place(address: u32) -> usize
+    ensures { λ r. ⌜ r ≡ Spec.hostPlace address ⌝ }
+    ensures range { λ r. ⌜ r ≤ 39 ⌝ }
+{
+    if address == 1 {
+        return 39;
+    }
+    if address == 2 {
+        return 37;
+    }
+    38
+}
+
+// uint32_t gauge_write(uint8_t *saved, size_t saved_length, uint32_t address, uint8_t value): 14, 7 to 11. A byte that is stored as
+// given is put where the saved bytes hold it; only a command saves the whole gauge.
 #[no_mangle]
 pub extern "C" fn gauge_write(saved: &mut [u8], address: u32, value: u8) -> u32
     ensures number { λ r. ⌜ r ≡ Spec.callNumber (now (saved .entry)) (Spec.writeCall address value) ⌝ }
     ensures bytes { λ _. ⌜ now (saved .exit) ≡ Spec.callBytes (now (saved .entry)) (Spec.writeCall address value) ⌝ }
 {
-    let loaded = load(saved);
-    if loaded.number != 0 {
-        return loaded.number;
+    if !form_fits(saved) {
+        return 14;
     }
-    let gauge = loaded.gauge;
+    let gauge = decoded(saved);
     let answer = gauge.write(address, value);
     if answer.number != 0 {
         return answer.number;
+    }
+    if 0 < address {
+        let place = host_place(address);
+        saved[place] = value;
+        return 0;
     }
     let next = answer.gauge;
     store(next, saved);
@@ -104,10 +124,9 @@ pub extern "C" fn gauge_read(
     ensures number { λ r. ⌜ r ≡ Spec.readNumber (now (saved .entry)) address count place (length (now (reply .entry))) ⌝ }
     ensures bytes { λ _. ⌜ now (reply .exit) ≡ Spec.readReply (now (saved .entry)) address count place (now (reply .entry)) ⌝ }
 {
-    let loaded = load(saved);
-    if loaded.number != 0 {
-        return loaded.number;
+    if !form_fits(saved) {
+        return 14;
     }
-    let gauge = loaded.gauge;
+    let gauge = decoded(saved);
     read(gauge, address, count, reply, place)
 }

@@ -121,7 +121,7 @@ fn loaded_host(bytes: &[u8]) -> Host
     }
 }
 
-fn decoded(bytes: &[u8]) -> Gauge
+pub(crate) fn decoded(bytes: &[u8]) -> Gauge
     requires { ⌜ length (now bytes) ≡ 41 ⌝ }
     ensures { λ r. ⌜ r ≡ Spec.loaded (now (bytes .entry)) ⌝ }
 {
@@ -146,20 +146,28 @@ fn rejected() -> Answer
     Answer { number: 14, gauge }
 }
 
+// "length 41, form 1", and the flags that a gauge value has no room for.
+pub(crate) fn form_fits(bytes: &[u8]) -> bool
+    ensures { λ r. ⌜ r ≡ Spec.formFits (now (bytes .entry)) ⌝ }
+{
+    if bytes.len() != 41 {
+        return false;
+    }
+    if bytes[0] != FORM {
+        return false;
+    }
+    let current = current_of(two_at(bytes, 31));
+    flags_fit(bytes[40], current.charging)
+}
+
 // The gauge that the bytes hold, or 14.
 pub fn load(bytes: &[u8]) -> Answer
     ensures { λ r. ⌜ r ≡ Spec.loadAnswer (now (bytes .entry)) ⌝ }
 {
-    if bytes.len() != 41 {
-        return rejected();
-    }
-    if bytes[0] != FORM {
+    if !form_fits(bytes) {
         return rejected();
     }
     let gauge = decoded(bytes);
-    if !flags_fit(bytes[40], gauge.shown.current.charging) {
-        return rejected();
-    }
     if !gauge.accepted() {
         return rejected();
     }

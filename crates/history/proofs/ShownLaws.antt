@@ -10,7 +10,7 @@ use borrow.Author.Tests.{leb-true, leb-false, le-leb, lt-ltb, ne-eqb, eqb-true}
 use Rattle.cell.specs.Choose.{choose}
 use Rattle.cell.specs.Configuration.{dmf, s0}
 use Rattle.cell.specs.Current.{counted, discharge, noCurrent}
-use Rattle.cell.specs.Sample.{between, current, currentInRange, currentOf, temperature, temperatureInRange, voltage, voltageInRange}
+use Rattle.cell.specs.Sample.{between, current, currentInRange, currentOf, temperature, temperatureInRange, valueBetween, voltage, voltageInRange}
 use Rattle.cell.specs.Signed.{magnitude, negative}
 use Rattle.cell.specs.declared.current.Current.{Current}
 use Rattle.gauge.specs.Accepted.{currentAccepted, shownAccepted, zeroOrBetween}
@@ -116,7 +116,7 @@ averaged-within s0 si iav h = go (not (eqb iav 0)) (leb iav (2 * s0)) refl
 module _ (c : List ℕ) (s : Shown) (k : ShownSound c s) where
   pub window-shown : (a v t : ℤ) (e : Ending) → currentInRange a ≡ true → voltageInRange v ≡ true → temperatureInRange t ≡ true
       → ShownSound c (averaged (s0 c) (ended e (chargingCleared (measured (counted (dmf c) (current a)) (voltage v) (temperature t) s))))
-  unfolding averaged chargingCleared measured
+  unfolding averaged chargingCleared measured valueBetween
   window-shown a v t e p q r =
       let x = chargingCleared (measured (counted (dmf c) (current a)) (voltage v) (temperature t) s) in
       let h = ended-keeps e x in
@@ -128,7 +128,7 @@ module _ (c : List ℕ) (s : Shown) (k : ShownSound c s) where
       }
 
   pub rest-shown : (t : ℤ) → temperatureInRange t ≡ true → ShownSound c (shownRested (temperature t) s)
-  unfolding shownRested currentAccepted
+  unfolding shownRested currentAccepted valueBetween
   rest-shown t r =
       record { standby = k .standby; current = refl; voltage = k .voltage; temperature = in-range-accepted 1_012 1_372 t r }
 

@@ -3,7 +3,7 @@
 use mathlib.Core.Bool.{Bool, true, false, _&&_, _||_}
 use mathlib.Core.List.{List, [], _∷_}
 use mathlib.Core.Path.{_≡_, refl, sym, ap, _∙_}
-use Prim.Native.Nat.{ℕ, zero, suc, _+_, _-_, _*_, _≤_, _<_}
+use Prim.Native.Nat.{ℕ, zero, suc, _+_, _-_, _*_, _/_, _%_, _≤_, _<_}
 use native.Mathlib.Omega.{arith}
 use lib.Dec.{T, eqb, leb, ltb, eqb→eq}
 use lib.ListN.{getD}
@@ -72,3 +72,18 @@ look-up-below a (r ∷ rs) = go (leb (r .address) a && ltb a (r .address + r .wi
 pub register-below : (g : Gauge) (a : ℕ) → register g a < 256
 unfolding register
 register-below g a = look-up-below a (rows g)
+
+-- ---- the two bytes of a pair
+
+pub low-shown : (g : Gauge) (n a pair : ℕ) → pair ≡ pairAt g n → 2 * n ≡ a → pair % 256 ≡ register g a
+low-shown g n a pair e at =
+    let low = register-below g (2 * n) in
+    let shown : pair % 256 ≡ register g (2 * n) = omega arith in
+    shown ∙ ap (register g) at
+
+pub high-shown : (g : Gauge) (n a pair : ℕ) → pair ≡ pairAt g n → 2 * n + 1 ≡ a → pair / 256 ≡ register g a
+high-shown g n a pair e at =
+    let low = register-below g (2 * n) in
+    let high = register-below g (2 * n + 1) in
+    let shown : pair / 256 ≡ register g (2 * n + 1) = omega arith in
+    shown ∙ ap (register g) at

@@ -3,3 +3,4 @@ mod map;
 pub mod read;
 mod times;
 pub mod values;
+mod whole;

@@ -106,7 +106,7 @@ fn configuration_pair(gauge: Gauge, pair: u32) -> u16
 }
 
 // The registers 2n and 2n + 1; "other bytes to 0x7F are 0".
-fn pair_at(gauge: Gauge, pair: u32) -> u16
+pub(crate) fn pair_at(gauge: Gauge, pair: u32) -> u16
     requires { ⌜ (accepted gauge ≡ true) × (pair < 64) ⌝ }
     ensures { λ r. ⌜ r ≡ Spec.pairAt gauge pair ⌝ }
 {
@@ -127,16 +127,4 @@ fn pair_at(gauge: Gauge, pair: u32) -> u16
         return 0;
     }
     configuration_pair(gauge, pair)
-}
-
-// The byte at an address.
-pub(crate) fn register(gauge: Gauge, address: u32) -> u8
-    requires { ⌜ (accepted gauge ≡ true) × (address < 128) ⌝ }
-    ensures { λ r. ⌜ r ≡ Spec.register gauge address ⌝ }
-{
-    let pair = pair_at(gauge, address / 2);
-    if address % 2 == 0 {
-        return (pair % 256) as u8;
-    }
-    (pair / 256) as u8
 }

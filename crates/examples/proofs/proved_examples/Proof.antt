@@ -6,7 +6,7 @@ use Rattle.cell.specs.Current.{charge, counted, discharge}
 use Rattle.cell.specs.Leak.{band, leak, leakRate, reached, weight}
 use Rattle.cell.specs.Learning.{learned}
 use Rattle.cell.specs.Run.{drained, unlessPassed}
-use Rattle.cell.specs.Sample.{between, currentInRange}
+use Rattle.cell.specs.Sample.{between, currentInRange, valueBetween}
 use Rattle.cell.proofs.ExampleLaws.{examples}
 use Rattle.gauge.specs.Accepted.{accepted, chargeAccepted, currentAccepted, runAccepted, shownAccepted, zeroOrBetween}
 use Rattle.gauge.specs.Calls.{windowAnswer}
@@ -25,7 +25,7 @@ use Rattle.examples.proofs.proved_examples.Statement.{statement}
 use Rattle.examples.proofs.proved_examples.Tie as tie
 
 returns : tie.Need-returns
-unfolding dcmp dt minutes offsetTerm rateTerm dcompTaken charge counted discharge band leak leakRate reached weight learned drained unlessPassed between currentInRange accepted chargeAccepted currentAccepted runAccepted shownAccepted zeroOrBetween windowAnswer ended filled filledIf leaked moved runMoved decide decideA9 highestCommandBit endingOf mayTeach isFull fullIf openAnswer openRefusal opened openedCharge openedHost openedShown Shown.ended averaged averagedStandby flags ciCleared measured chargingCleared endingAt fullAt step1 step2 step3 step4 step5 window Values.flags flagsByte cac reduction rsoc tte
+unfolding dcmp dt minutes offsetTerm rateTerm dcompTaken charge counted discharge band leak leakRate reached weight learned drained unlessPassed between currentInRange valueBetween accepted chargeAccepted currentAccepted runAccepted shownAccepted zeroOrBetween windowAnswer ended filled filledIf leaked moved runMoved decide decideA9 highestCommandBit endingOf mayTeach isFull fullIf openAnswer openRefusal opened openedCharge openedHost openedShown Shown.ended averaged averagedStandby flags ciCleared measured chargingCleared endingAt fullAt step1 step2 step3 step4 step5 window Values.flags flagsByte cac reduction rsoc tte
 returns c =
     record {
       cell = examples;

@@ -1,11 +1,11 @@
--- Each way returns the case that its tests pick. Assumes nothing.
+-- Each way returns the case that its tests pick; a voltage above E1 is above EDVF too. Assumes nothing.
 use Prim.Native.Nat.{_<_, _≤_}
 use mathlib.Core.Path.{_≡_, _∙_, sym}
 use native.Mathlib.Omega.{arith}
 use borrow.Author.Tests.{le-leb, lt-leb, eq-eqb, ne-eqb, not-true, not-false}
-use borrow.Author.Needs.{needs}
 use Rattle.gauge.specs.Ending.{endingOf}
 use Rattle.cell.specs.Configuration.{edvf, e1}
+use borrow.Author.Needs.{needs}
 use Rattle.gauge.proofs.ending.ending_of.Statement.{statement}
 use Rattle.gauge.proofs.ending.ending_of.Tie as tie
 
@@ -13,26 +13,26 @@ returns : tie.Need-returns
 unfolding endingOf
 returns c = simp (eq-eqb _ _ (c .if1 .taken))
 
-edvf-requires : tie.Need-edvf-requires
-edvf-requires c κs = search needs
+e1-requires : tie.Need-e1-requires
+e1-requires c κs = search needs
 
 returns-2 : tie.Need-returns-2
 unfolding endingOf
 returns-2 c =
     let a = c .before .before .before .args in
-    let h : a .voltage ≤ edvf (a .configuration) = omega arith in
-    simp (ne-eqb _ _ (c .before .before .if1 .left), le-leb _ _ h)
+    let k : e1 (a .configuration) < a .voltage = omega arith in
+    let h : edvf (a .configuration) < a .voltage = omega arith in
+    simp (ne-eqb _ _ (c .before .before .if1 .left), lt-leb _ _ h, lt-leb _ _ k)
 
-e1-requires : tie.Need-e1-requires
-e1-requires c κs = search needs
+edvf-requires : tie.Need-edvf-requires
+edvf-requires c κs = search needs
 
 returns-3 : tie.Need-returns-3
 unfolding endingOf
 returns-3 c =
     let a = c .before .before .before .before .before .args in
-    let h : edvf (a .configuration) < a .voltage = omega arith in
-    let k : e1 (a .configuration) < a .voltage = omega arith in
-    simp (ne-eqb _ _ (c .before .before .before .before .if1 .left), lt-leb _ _ h, lt-leb _ _ k)
+    let h : a .voltage ≤ edvf (a .configuration) = omega arith in
+    simp (ne-eqb _ _ (c .before .before .before .before .if1 .left), le-leb _ _ h)
 
 returns-4 : tie.Need-returns-4
 unfolding endingOf
@@ -66,9 +66,9 @@ ending-of-spec =
     tie.close
     (tie.spec
     returns
-    edvf-requires
-    returns-2
     e1-requires
+    returns-2
+    edvf-requires
     returns-3
     returns-4
     may-teach-requires

@@ -1,30 +1,35 @@
--- The three ways through a call on the saved bytes. Assumes nothing.
-use mathlib.Core.Path.{_≡_, _∙_, ap}
+-- The ways through a call on the saved bytes. Assumes nothing.
+use mathlib.Core.Path.{_≡_, _∙_, sym, ap}
 use denote.Ref.{now}
 use lib.IntN.{ℤ}
-use mir.Syntax.{w32}
-use mir.Val.{ofZ, toZ}
-use borrow.Author.Needs.{needs}
+use borrow.Author.Tests.{not-true, not-false}
+use Rattle.gauge.specs.declared.state.Gauge.{Gauge}
 use Rattle.handset.specs.Calls.{restCall}
+use Rattle.handset.specs.Form.{loaded}
 use Rattle.cell.proofs.SignedLaws.{narrow}
-use Rattle.handset.proofs.CallLaws.{done, refused, rejected}
-use Rattle.handset.proofs.RoundTripLaws.{loadable-length, loaded-where-0}
+use Rattle.handset.proofs.CallLaws.{done, misfit, refused, rest-rejects}
+use Rattle.handset.proofs.RoundTripLaws.{form-length}
+use borrow.Author.Needs.{needs}
 use Rattle.handset.proofs.calls.gauge_rest.Statement.{statement}
 use Rattle.handset.proofs.calls.gauge_rest.Tie as tie
 
-answered : (c : tie.After-rest) → c .rest .result ≡ restCall (c .before .before .before .before .before .before .before .args .windows) (c .before .before .before .before .before .before .before .args .temperature) (c .before .before .before .before .load .result .gauge)
+answered : (c : tie.After-rest) → c .rest .result ≡ restCall (c .before .before .before .before .before .before .before .args .windows) (c .before .before .before .before .before .before .before .args .temperature) (loaded (now (c .before .before .before .before .before .before .before .args .saved)))
 answered c =
     c .rest .ensures
-    ∙ ap (λ (z : ℤ). restCall (c .before .before .before .before .before .before .before .args .windows) z (c .before .before .before .before .load .result .gauge)) (narrow _ (c .before .before .before .before .before .before .before .fits .temperature))
+    ∙ ap (λ (z : ℤ). restCall (c .before .before .before .before .before .before .before .args .windows) z (c .before .decoded .result)) (narrow _ (c .before .before .before .before .before .before .before .fits .temperature))
+    ∙ ap (restCall (c .before .before .before .before .before .before .before .args .windows) (c .before .before .before .before .before .before .before .args .temperature)) (c .before .decoded .ensures)
 
-load-requires : tie.Need-load-requires
-load-requires c κs = search needs
+form-fits-requires : tie.Need-form-fits-requires
+form-fits-requires c κs = search needs
 
 same-length : tie.Need-same-length
 same-length c = search needs
 
 returns : tie.Need-returns
-returns c = rejected (now (c .before .before .before .before .before .args .saved)) (restCall (c .before .before .before .before .before .args .windows) (c .before .before .before .before .before .args .temperature)) _ (c .before .before .load .ensures) (c .if1 .taken)
+returns c = misfit _ _ (sym (c .before .form-fits .ensures) ∙ not-true _ (c .if1 .taken))
+
+decoded-requires : tie.Need-decoded-requires
+decoded-requires c κs = form-length _ (sym (c .before .before .form-fits .ensures) ∙ not-false _ (c .before .if1 .left))
 
 rest-requires : tie.Need-rest-requires
 rest-requires c κs = search needs
@@ -33,24 +38,25 @@ same-length-2 : tie.Need-same-length-2
 same-length-2 c = search needs
 
 returns-2 : tie.Need-returns-2
-returns-2 c = refused (now (c .before .before .before .before .before .before .before .before .before .args .saved)) (restCall (c .before .before .before .before .before .before .before .before .before .args .windows) (c .before .before .before .before .before .before .before .before .before .args .temperature)) _ (c .before .before .before .before .before .before .load .ensures) (c .before .before .before .before .if1 .left) _ (answered (c .before .before)) (c .if2 .taken)
+returns-2 c = refused _ (restCall (c .before .before .before .before .before .before .before .before .before .args .windows) (c .before .before .before .before .before .before .before .before .before .args .temperature)) (rest-rejects _ _) (sym (c .before .before .before .before .before .before .form-fits .ensures) ∙ not-false _ (c .before .before .before .before .before .if1 .left)) _ (answered (c .before .before)) (c .if2 .taken)
 
 store-requires : tie.Need-store-requires
-store-requires c κs = loadable-length _ (loaded-where-0 _ _ (c .before .before .before .before .before .before .before .before .load .ensures) (c .before .before .before .before .before .before .if1 .left) .0)
+store-requires c κs = form-length _ (sym (c .before .before .before .before .before .before .before .before .form-fits .ensures) ∙ not-false _ (c .before .before .before .before .before .before .before .if1 .left))
 
 same-length-3 : tie.Need-same-length-3
 same-length-3 c = search needs
 
 returns-3 : tie.Need-returns-3
-returns-3 c = done (now (c .before .before .before .before .before .before .before .before .before .before .before .before .before .before .args .saved)) (restCall (c .before .before .before .before .before .before .before .before .before .before .before .before .before .before .args .windows) (c .before .before .before .before .before .before .before .before .before .before .before .before .before .before .args .temperature)) _ (c .before .before .before .before .before .before .before .before .before .before .before .load .ensures) (c .before .before .before .before .before .before .before .before .before .if1 .left) _ (answered (c .before .before .before .before .before .before .before)) _ (c .before .before .before .before .before .if2 .left) (c .before .before .store .ensures)
+returns-3 c = done _ (restCall (c .before .before .before .before .before .before .before .before .before .before .before .before .before .before .args .windows) (c .before .before .before .before .before .before .before .before .before .before .before .before .before .before .args .temperature)) (rest-rejects _ _) (sym (c .before .before .before .before .before .before .before .before .before .before .before .form-fits .ensures) ∙ not-false _ (c .before .before .before .before .before .before .before .before .before .before .if1 .left)) _ (answered (c .before .before .before .before .before .before .before)) _ (c .before .before .before .before .before .if2 .left) (c .before .before .store .ensures)
 
 pub gauge-rest-spec : {M : Type 1} → statement M
 gauge-rest-spec =
     tie.close
     (tie.spec
-    load-requires
+    form-fits-requires
     same-length
     returns
+    decoded-requires
     rest-requires
     same-length-2
     returns-2

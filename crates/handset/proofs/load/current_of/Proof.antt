@@ -5,7 +5,7 @@ use lib.Dec.{ltb}
 use borrow.Author.Tests.{lt-ltb, le-ltb}
 use borrow.Author.Needs.{needs}
 use Rattle.handset.specs.Form.{currentOf}
-use Rattle.handset.proofs.EncodingLaws.{and-true, and-false}
+use Rattle.gauge.proofs.BoolLaws.{and-true, and-false}
 use Rattle.handset.proofs.load.current_of.Statement.{statement}
 use Rattle.handset.proofs.load.current_of.Tie as tie
 

@@ -74,7 +74,7 @@ copy-registers-requires : tie.Need-copy-registers-requires
 copy-registers-requires c κs =
     let a = c .before .before .before .before .before .before .before .before .args in
     let long = lent-length (a .place) (a .count) (a .reply .now) (c .before .if5 .left) in
-    (sym (c .before .before .before .before .before .before .accepted .ensures) ∙ not-false _ (c .before .before .before .before .before .if1 .left), omega arith)
+    (sym (c .before .before .before .before .before .before .accepted .ensures) ∙ not-false _ (c .before .before .before .before .before .if1 .left), omega arith, omega arith)
 
 same-length : tie.Need-same-length
 same-length c = search needs

@@ -1,22 +1,18 @@
 -- Each way answers what its tests pick, in the paper's order. Assumes nothing.
 use Prim.Native.Nat.{_≤_, _<_}
-use mathlib.Core.Path.{_≡_, _∙_, sym, ap, subst}
+use mathlib.Core.Bool.{true, false}
+use mathlib.Core.Path.{_≡_, _∙_, sym, ap}
 use native.Mathlib.Omega.{arith}
-use lib.IntN.{ℤ}
 use borrow.Author.Tests.{lt-ltb, le-ltb, le-leb, lt-leb, not-true, not-false}
-use borrow.Author.Needs.{needs}
 use Rattle.gauge.specs.Calls.{restAnswer}
-use Rattle.cell.specs.Sample.{measuredNumber, measuredValue, temperature, temperatureRefusal}
+use Rattle.cell.specs.Sample.{temperature, temperatureInRange}
 use Rattle.cell.proofs.SignedLaws.{narrow}
+use borrow.Author.Needs.{needs}
 use Rattle.gauge.proofs.state.Gauge.rest.Statement.{statement}
 use Rattle.gauge.proofs.state.Gauge.rest.Tie as tie
 
-temperature-is : (c : tie.After-measured-temperature) →
-    (measuredNumber 5 (c .measured-temperature .result) ≡ temperatureRefusal (c .before .before .before .before .before .args .t))
-    × (measuredValue (c .measured-temperature .result) ≡ temperature (c .before .before .before .before .before .args .t))
-temperature-is c =
-    subst (λ (z : ℤ). (measuredNumber 5 (c .measured-temperature .result) ≡ temperatureRefusal z) × (measuredValue (c .measured-temperature .result) ≡ temperature z))
-    (narrow _ (c .before .before .before .before .before .fits .t)) (c .measured-temperature .ensures)
+in-range-is : (c : tie.After-temperature-in-range) → c .temperature-in-range .result ≡ temperatureInRange (c .before .before .before .before .before .args .t)
+in-range-is c = c .temperature-in-range .ensures ∙ ap temperatureInRange (narrow _ (c .before .before .before .before .before .fits .t))
 
 accepted-requires : tie.Need-accepted-requires
 accepted-requires c κs = search needs
@@ -37,21 +33,17 @@ returns-3 c =
     let h : 0 < c .before .before .before .before .args .windows = omega arith in
     simp (sym (c .before .before .before .accepted .ensures) ∙ not-false _ (c .before .before .if1 .left), lt-ltb _ _ h, lt-leb _ _ (c .if3 .taken))
 
-measured-temperature-requires : tie.Need-measured-temperature-requires
-measured-temperature-requires c κs = search needs
-
-enum-known-temperature : tie.Need-enum-known-temperature
-enum-known-temperature c = search needs
-
-enum-told : tie.Need-enum-told
-enum-told c = search needs
+temperature-in-range-requires : tie.Need-temperature-in-range-requires
+temperature-in-range-requires c κs = search needs
 
 returns-4 : tie.Need-returns-4
 unfolding restAnswer
 returns-4 c =
-    let h : 0 < c .before .before .before .before .before .before .before .args .windows = omega arith in
-    let n = sym (temperature-is (c .before .before) .0) ∙ ap (measuredNumber 5) (c .enum-told .given .1) in
-    simp (sym (c .before .before .before .before .before .before .accepted .ensures) ∙ not-false _ (c .before .before .before .before .before .if1 .left), lt-ltb _ _ h, le-leb _ _ (c .before .before .before .if3 .left), n)
+    let h : 0 < c .before .before .before .before .before .before .args .windows = omega arith in
+    simp (sym (c .before .before .before .before .before .accepted .ensures) ∙ not-false _ (c .before .before .before .before .if1 .left), lt-ltb _ _ h, le-leb _ _ (c .before .before .if3 .left), sym (in-range-is (c .before)) ∙ not-true _ (c .if4 .taken))
+
+temperature-requires : tie.Need-temperature-requires
+temperature-requires c κs = search needs
 
 rested-requires : tie.Need-rested-requires
 rested-requires c κs = search needs
@@ -59,11 +51,9 @@ rested-requires c κs = search needs
 returns-5 : tie.Need-returns-5
 unfolding restAnswer
 returns-5 c =
-    let h : 0 < c .before .before .before .before .before .before .before .before .before .args .windows = omega arith in
-    let told = c .before .before .temperature .given .1 in
-    let n = sym (temperature-is (c .before .before .before .before) .0) ∙ ap (measuredNumber 5) told in
-    let v = sym (ap measuredValue told) ∙ temperature-is (c .before .before .before .before) .1 in
-    simp (sym (c .before .before .before .before .before .before .before .before .accepted .ensures) ∙ not-false _ (c .before .before .before .before .before .before .before .if1 .left), lt-ltb _ _ h, le-leb _ _ (c .before .before .before .before .before .if3 .left), n) (cc)
+    let h : 0 < c .before .before .before .before .before .before .before .before .args .windows = omega arith in
+    let t = c .before .temperature .ensures ∙ ap temperature (narrow _ (c .before .before .before .before .before .before .before .before .fits .t)) in
+    simp (sym (c .before .before .before .before .before .before .before .accepted .ensures) ∙ not-false _ (c .before .before .before .before .before .before .if1 .left), lt-ltb _ _ h, le-leb _ _ (c .before .before .before .before .if3 .left), sym (in-range-is (c .before .before .before)) ∙ not-false _ (c .before .before .if4 .left)) (cc)
 
 pub rest-spec : {M : Type 1} → statement M
 rest-spec =
@@ -73,9 +63,8 @@ rest-spec =
     returns
     returns-2
     returns-3
-    measured-temperature-requires
-    enum-known-temperature
-    enum-told
+    temperature-in-range-requires
     returns-4
+    temperature-requires
     rested-requires
     returns-5)

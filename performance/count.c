@@ -1,0 +1,50 @@
+/* Makes one kind of call a given number of times, for run, which takes the instructions of two such runs apart. */
+#include "gauge.h"
+
+#include <stdlib.h>
+#include <string.h>
+
+static const uint8_t bench_pack[GAUGE_CONFIGURATION_LENGTH] = {
+    0x04, 0x5E, 0x77, 0x05, 0x21, 0x10, 0x00, 0x00, 0x6C, 0x15,
+};
+static uint8_t saved[GAUGE_SAVED_LENGTH];
+static uint8_t reply[GAUGE_REGISTERS];
+
+/* A gauge on its way from full, so that a window takes the discharge path and TTE, CAC and FCAC are divided out. */
+static uint32_t start(void)
+{
+    return gauge_open(bench_pack, sizeof bench_pack, saved, sizeof saved) |
+           gauge_window(saved, sizeof saved, 20, 4150, 1192) | gauge_window(saved, sizeof saved, -3000, 3600, 1192);
+}
+
+/* The numbers of all calls are joined, so that a refused call, which would be shorter, cannot pass unseen. */
+#define REPEAT(call)                                                                                                                 \
+    for (unsigned long i = 0; i < times; i++)                                                                                        \
+        numbers |= (call)
+
+int main(int arguments, char **argument)
+{
+    if (arguments != 3)
+        return 2;
+    const char *kind = argument[1];
+    unsigned long times = strtoul(argument[2], NULL, 10);
+    uint32_t numbers = start();
+
+    if (strcmp(kind, "window") == 0)
+        REPEAT(gauge_window(saved, sizeof saved, -3000, 3600, 1192));
+    else if (strcmp(kind, "read-2") == 0)
+        REPEAT(gauge_read(saved, sizeof saved, GAUGE_REG_NAC, 2, reply, sizeof reply, 0));
+    else if (strcmp(kind, "read-128") == 0)
+        REPEAT(gauge_read(saved, sizeof saved, 0, GAUGE_REGISTERS, reply, sizeof reply, 0));
+    else if (strcmp(kind, "write") == 0)
+        REPEAT(gauge_write(saved, sizeof saved, GAUGE_REG_AR, 0x64));
+    else if (strcmp(kind, "rest-1") == 0)
+        REPEAT(gauge_rest(saved, sizeof saved, 1, 1192));
+    else if (strcmp(kind, "rest-100") == 0)
+        REPEAT(gauge_rest(saved, sizeof saved, 100, 1192));
+    else if (strcmp(kind, "rest-16875") == 0)
+        REPEAT(gauge_rest(saved, sizeof saved, 16875, 1192));
+    else
+        return 2;
+    return numbers == GAUGE_OK ? 0 : 1;
+}
