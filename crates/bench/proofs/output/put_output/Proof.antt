@@ -1,0 +1,142 @@
+-- Each arm puts the text of its case. Assumes nothing.
+use mathlib.Core.Path.{refl}
+use native.Mathlib.Omega.{arith}
+use Rattle.bench.specs.Output.{headingText, namesText, unreadText, textOf}
+use Rattle.bench.specs.declared.output.Output.the-variants.{Heading, Names, Unread}
+use Rattle.bench.proofs.OutputLaws.{case-put, nothing-put, text-put}
+use borrow.Author.Needs.{needs}
+use Rattle.bench.proofs.output.put_output.Statement.{statement}
+use Rattle.bench.proofs.output.put_output.Tie as tie
+
+enum-told : tie.Need-enum-told
+enum-told c = search needs
+
+enum-told-2 : tie.Need-enum-told-2
+enum-told-2 c = search needs
+
+slice-aggregate-put-text : tie.Need-slice-aggregate-put-text
+slice-aggregate-put-text c = search needs
+
+put-text-requires : tie.Need-put-text-requires
+put-text-requires c κs = search needs
+
+enum-told-3 : tie.Need-enum-told-3
+enum-told-3 c = search needs
+
+slice-aggregate-put-text-2 : tie.Need-slice-aggregate-put-text-2
+slice-aggregate-put-text-2 c = search needs
+
+put-text-requires-2 : tie.Need-put-text-requires-2
+put-text-requires-2 c κs = search needs
+
+enum-told-4 : tie.Need-enum-told-4
+enum-told-4 c = search needs
+
+slice-aggregate-put-text-3 : tie.Need-slice-aggregate-put-text-3
+slice-aggregate-put-text-3 c = search needs
+
+put-text-requires-3 : tie.Need-put-text-requires-3
+put-text-requires-3 c κs = search needs
+
+enum-known-output : tie.Need-enum-known-output
+enum-known-output c = search needs
+
+put-refused-requires : tie.Need-put-refused-requires
+put-refused-requires c κs = search needs
+
+enum-known-output-2 : tie.Need-enum-known-output-2
+enum-known-output-2 c = search needs
+
+put-registers-requires : tie.Need-put-registers-requires
+put-registers-requires c κs = search needs
+
+returns : tie.Need-returns
+returns c =
+    let a = c .before .before .before .args in
+    case-put (a .output) _ (a .out .now) (a .out .now) (a .at) (a .at) (c .enum-told .given .1) (nothing-put (a .out .now) (a .at)) (omega arith)
+
+same-length : tie.Need-same-length
+same-length c = search needs
+
+returns-2 : tie.Need-returns-2
+unfolding textOf
+returns-2 c =
+    let a = c .before .before .before .before .before .before .before .before .args in
+    let p = c .before .before .put-text in
+    let s = text-put Heading headingText (a .out .now) (a .at) (p .result) (p .last .1 .0) refl (omega arith) (omega arith) (p .ensures .0) (p .ensures .1) in
+    let l = s .place in
+    case-put (a .output) Heading (a .out .now) _ (a .at) _ (c .before .before .before .before .before .enum-told2 .given .1) s (omega arith)
+
+same-length-2 : tie.Need-same-length-2
+same-length-2 c = search needs
+
+returns-3 : tie.Need-returns-3
+unfolding textOf
+returns-3 c =
+    let a = c .before .before .before .before .before .before .before .before .args in
+    let p = c .before .before .put-text2 in
+    let s = text-put Names namesText (a .out .now) (a .at) (p .result) (p .last .1 .0) refl (omega arith) (omega arith) (p .ensures .0) (p .ensures .1) in
+    let l = s .place in
+    case-put (a .output) Names (a .out .now) _ (a .at) _ (c .before .before .before .before .before .enum-told3 .given .1) s (omega arith)
+
+same-length-3 : tie.Need-same-length-3
+same-length-3 c = search needs
+
+returns-4 : tie.Need-returns-4
+unfolding textOf
+returns-4 c =
+    let a = c .before .before .before .before .before .before .before .before .args in
+    let p = c .before .before .put-text3 in
+    let s = text-put Unread unreadText (a .out .now) (a .at) (p .result) (p .last .1 .0) refl (omega arith) (omega arith) (p .ensures .0) (p .ensures .1) in
+    let l = s .place in
+    case-put (a .output) Unread (a .out .now) _ (a .at) _ (c .before .before .before .before .before .enum-told4 .given .1) s (omega arith)
+
+same-length-4 : tie.Need-same-length-4
+same-length-4 c = search needs
+
+returns-5 : tie.Need-returns-5
+unfolding textOf
+returns-5 c =
+    let a = c .before .before .before .before .before .before .before .before .args in
+    let p = c .before .before .put-refused in
+    case-put (a .output) _ (a .out .now) _ (a .at) _ (c .before .before .before .before .before .output .given .1) (record { place = p .ensures .0; bytes = p .ensures .1 .0 }) (p .ensures .1 .1)
+
+same-length-5 : tie.Need-same-length-5
+same-length-5 c = search needs
+
+returns-6 : tie.Need-returns-6
+unfolding textOf
+returns-6 c =
+    let a = c .before .before .before .before .before .before .before .before .args in
+    let p = c .before .before .put-registers in
+    case-put (a .output) _ (a .out .now) _ (a .at) _ (c .before .before .before .before .before .output2 .given .1) (record { place = p .ensures .0; bytes = p .ensures .1 .0 }) (p .ensures .1 .1)
+
+pub put-output-spec : {M : Type 1} → statement M
+put-output-spec =
+    tie.close
+    (tie.spec
+    enum-told
+    enum-told-2
+    slice-aggregate-put-text
+    put-text-requires
+    enum-told-3
+    slice-aggregate-put-text-2
+    put-text-requires-2
+    enum-told-4
+    slice-aggregate-put-text-3
+    put-text-requires-3
+    enum-known-output
+    put-refused-requires
+    enum-known-output-2
+    put-registers-requires
+    returns
+    same-length
+    returns-2
+    same-length-2
+    returns-3
+    same-length-3
+    returns-4
+    same-length-4
+    returns-5
+    same-length-5
+    returns-6)

@@ -1,0 +1,20 @@
+-- The registers, or the refusal's number. Assumes nothing.
+use borrow.Author.Tests.{eq-eqb, ne-eqb}
+use Rattle.bench.specs.Window.{answerOutput}
+use borrow.Author.Needs.{needs}
+use Rattle.bench.proofs.window.answer_output.Statement.{statement}
+use Rattle.bench.proofs.window.answer_output.Tie as tie
+
+registers-output-requires : tie.Need-registers-output-requires
+registers-output-requires c κs = search needs
+
+returns : tie.Need-returns
+unfolding answerOutput
+returns c = simp (eq-eqb _ _ (c .before .if1 .taken)) (c .registers-output .ensures)
+
+returns-2 : tie.Need-returns-2
+unfolding answerOutput
+returns-2 c = simp (ne-eqb _ _ (c .if1 .left))
+
+pub answer-output-spec : {M : Type 1} → statement M
+answer-output-spec = tie.close (tie.spec registers-output-requires returns returns-2)

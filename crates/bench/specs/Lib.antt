@@ -1,0 +1,5 @@
+pub mod Feed
+pub mod Filter
+pub mod Output
+pub mod Printed
+pub mod Window
