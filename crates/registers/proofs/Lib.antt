@@ -1,3 +1,4 @@
+pub mod CopyLaws
 pub mod MapLaws
 pub mod ReadLaws
 pub mod WholeLaws

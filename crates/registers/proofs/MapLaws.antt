@@ -1,5 +1,5 @@
--- Laws of the map: what a row shows at its pair of addresses, which pairs no row covers, and that every register is a byte.
--- At an address that is a numeral the map computes. Assumes nothing.
+-- Laws of the map: what a row shows at its pair of addresses, which pairs no row covers, that every register is a byte, and the bytes of
+-- a pair. At an address that is a numeral the map computes. Assumes nothing.
 use mathlib.Core.Bool.{Bool, true, false, _&&_, _||_}
 use mathlib.Core.List.{List, [], _∷_}
 use mathlib.Core.Path.{_≡_, refl, sym, ap, _∙_}

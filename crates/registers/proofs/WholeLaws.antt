@@ -50,9 +50,16 @@ then-pair {b} {b′} {after} {v} {w} at e h k =
 abbrev pub zerosWith : List ℕ → List ℕ
 zerosWith part = take 118 (replicate 128 0) ++ (part ++ drop 10 (drop 118 (replicate 128 0)))
 
--- the three groups of registers that follow the gauge
-abbrev pub stored : Gauge → List ℕ → List ℕ
+-- the three groups of registers below CEDV, one after the other
+abbrev stored : Gauge → List ℕ → List ℕ
 stored g bytes = sets (sets (sets bytes 0x01 (registersFrom g 0x01 9)) 0x0A (registersFrom g 0x0A 10)) 0x14 (registersFrom g 0x14 10)
+
+pub stored-of : (g : Gauge) (b : List ℕ) {b₁ b₂ b₃ : List ℕ} → b₁ ≡ sets b 0x01 (registersFrom g 0x01 9)
+    → b₂ ≡ sets b₁ 0x0A (registersFrom g 0x0A 10) → b₃ ≡ sets b₂ 0x14 (registersFrom g 0x14 10) → b₃ ≡ stored g b
+stored-of g b e₁ e₂ e₃ =
+    e₃
+    ∙ ap (λ (l : List ℕ). sets l 0x14 (registersFrom g 0x14 10)) e₂
+    ∙ ap (λ (l : List ℕ). sets (sets l 0x0A (registersFrom g 0x0A 10)) 0x14 (registersFrom g 0x14 10)) e₁
 
 -- CEDV last
 pub whole-of : (g : Gauge) (part : List ℕ) → part ≡ registersFrom g 0x76 10

@@ -5,7 +5,7 @@ use native.Mathlib.Omega.{arith}
 use lib.ListN.{length, length-set, set}
 use Rattle.registers.specs.Map.{register, registersFrom}
 use Rattle.registers.proofs.MapLaws.{high-shown, low-shown}
-use Rattle.registers.proofs.ReadLaws.{sets-counted}
+use Rattle.registers.proofs.CopyLaws.{sets-counted}
 use borrow.Author.Needs.{needs}
 use Rattle.registers.proofs.read.copy_pair.Statement.{statement}
 use Rattle.registers.proofs.read.copy_pair.Tie as tie

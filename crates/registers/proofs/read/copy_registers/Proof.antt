@@ -1,5 +1,5 @@
 -- One pair, or the middle of the whole map. Assumes nothing.
-use Rattle.registers.proofs.ReadLaws.{copied-middle}
+use Rattle.registers.proofs.CopyLaws.{copied-middle}
 use borrow.Author.Needs.{needs}
 use Rattle.registers.proofs.read.copy_registers.Statement.{statement}
 use Rattle.registers.proofs.read.copy_registers.Tie as tie

@@ -51,12 +51,12 @@ returns c =
     let flags : c .before .before .before .before .before .before .before .before .before .before .before .before .flags .result ≡ byteAt (Values.flags g) 0 = omega arith in
     let rsoc : c .before .before .before .before .before .before .before .before .before .before .before .rsoc .result ≡ byteAt (Values.rsoc g) 0 = omega arith in
     let bytes =
-    ap (λ (v : ℕ). set (set b 10 v) 11 (c .before .before .before .before .before .before .before .before .before .before .before .rsoc .result)) flags
-    ∙ ap (set (set b 10 (byteAt (Values.flags g) 0)) 11) rsoc in
-    let nac = then-pair 12 (c .before .before .before .before .before .before .before .before .put-pair .ensures) bytes (c .before .before .before .before .before .before .before .before .before .nac .ensures .0) in
-    let lmd = then-pair 14 (c .before .before .before .before .before .before .put-pair2 .ensures) nac refl in
-    let cac = then-pair 16 (c .before .before .before .put-pair3 .ensures) lmd (c .before .before .before .before .cac .ensures) in
-    then-pair 18 (c .put-pair4 .ensures) cac (c .before .fcac .ensures)
+    ap (λ (v : ℕ). set (set b 0x0A v) 0x0B (c .before .before .before .before .before .before .before .before .before .before .before .rsoc .result)) flags
+    ∙ ap (set (set b 0x0A (byteAt (Values.flags g) 0)) 0x0B) rsoc in
+    let nac = then-pair 0x0C (c .before .before .before .before .before .before .before .before .put-pair .ensures) bytes (c .before .before .before .before .before .before .before .before .before .nac .ensures .0) in
+    let lmd = then-pair 0x0E (c .before .before .before .before .before .before .put-pair2 .ensures) nac refl in
+    let cac = then-pair 0x10 (c .before .before .before .put-pair3 .ensures) lmd (c .before .before .before .before .cac .ensures) in
+    then-pair 0x12 (c .put-pair4 .ensures) cac (c .before .fcac .ensures)
 
 pub put-capacities-spec : {M : Type 1} → statement M
 put-capacities-spec =

@@ -2,7 +2,7 @@
 use mathlib.Core.Path.{_≡_}
 use native.Mathlib.Omega.{arith}
 use lib.ListN.{length}
-use Rattle.registers.proofs.ReadLaws.{copied-all}
+use Rattle.registers.proofs.CopyLaws.{copied-all}
 use borrow.Author.Needs.{needs}
 use Rattle.registers.proofs.whole.put_configuration.Statement.{statement}
 use Rattle.registers.proofs.whole.put_configuration.Tie as tie

@@ -34,10 +34,10 @@ returns : tie.Need-returns
 unfolding registersFrom register lookUp rows
 returns c =
     let iav = c .before .before .before .before .before .before .before .before .before .before .before .put-pair .ensures in
-    let tte = then-pair 22 (c .before .before .before .before .before .before .before .before .put-pair2 .ensures) iav (c .before .before .before .before .before .before .before .before .before .tte .ensures) in
-    let ttf = then-pair 24 (c .before .before .before .before .before .put-pair3 .ensures) tte (c .before .before .before .before .before .before .ttf .ensures) in
-    let si = then-pair 26 (c .before .before .before .put-pair4 .ensures) ttf refl in
-    then-pair 28 (c .put-pair5 .ensures) si (c .before .stte .ensures)
+    let tte = then-pair 0x16 (c .before .before .before .before .before .before .before .before .put-pair2 .ensures) iav (c .before .before .before .before .before .before .before .before .before .tte .ensures) in
+    let ttf = then-pair 0x18 (c .before .before .before .before .before .put-pair3 .ensures) tte (c .before .before .before .before .before .before .ttf .ensures) in
+    let si = then-pair 0x1A (c .before .before .before .put-pair4 .ensures) ttf refl in
+    then-pair 0x1C (c .put-pair5 .ensures) si (c .before .stte .ensures)
 
 pub put-currents-spec : {M : Type 1} → statement M
 put-currents-spec =

@@ -32,10 +32,10 @@ returns c =
     let g = c .before .before .before .before .before .before .before .before .before .args .gauge in
     let b = c .before .before .before .before .before .before .before .before .before .args .bytes .now in
     let mode : g .host .mode ≡ byteAt (g .host .mode) 0 = omega arith in
-    let ar = then-pair 2 (c .before .before .before .before .before .before .before .put-pair .ensures) (ap (set b 1) mode) refl in
-    let artte = then-pair 4 (c .before .before .before .before .put-pair2 .ensures) ar (c .before .before .before .before .before .artte .ensures) in
-    let temperature = then-pair 6 (c .before .before .put-pair3 .ensures) artte refl in
-    then-pair 8 (c .put-pair4 .ensures) temperature refl
+    let ar = then-pair 0x02 (c .before .before .before .before .before .before .before .put-pair .ensures) (ap (set b 0x01) mode) refl in
+    let artte = then-pair 0x04 (c .before .before .before .before .put-pair2 .ensures) ar (c .before .before .before .before .before .artte .ensures) in
+    let temperature = then-pair 0x06 (c .before .before .put-pair3 .ensures) artte refl in
+    then-pair 0x08 (c .put-pair4 .ensures) temperature refl
 
 pub put-host-spec : {M : Type 1} → statement M
 put-host-spec =

@@ -1,7 +1,8 @@
 -- The two bytes are those of the number, of which nothing is left. Assumes nothing.
-use Prim.Native.Nat.{_/_, _%_}
-use mathlib.Core.Path.{_≡_}
+use Prim.Native.Nat.{ℕ, _+_, _/_, _%_}
+use mathlib.Core.Path.{_≡_, ap, _∙_}
 use native.Mathlib.Omega.{arith}
+use lib.ListN.{set}
 use Rattle.registers.specs.Map.{byteAt}
 use borrow.Author.Needs.{needs}
 use Rattle.registers.proofs.whole.put_pair.Statement.{statement}
@@ -24,9 +25,11 @@ element-write-bytes-2 c = search needs
 
 returns : tie.Need-returns
 returns c =
-    let low : c .args .pair % 256 ≡ byteAt (c .args .pair) 0 = omega arith in
-    let high : c .args .pair / 256 ≡ byteAt (c .args .pair) 1 = omega arith in
-    cc
+    let a = c .args in
+    let low : a .pair % 256 ≡ byteAt (a .pair) 0 = omega arith in
+    let high : a .pair / 256 ≡ byteAt (a .pair) 1 = omega arith in
+    ap (λ (v : ℕ). set (set (a .bytes .now) (a .at) v) (a .at + 1) (a .pair / 256)) low
+    ∙ ap (set (set (a .bytes .now) (a .at) (byteAt (a .pair) 0)) (a .at + 1)) high
 
 pub put-pair-spec : {M : Type 1} → statement M
 put-pair-spec =

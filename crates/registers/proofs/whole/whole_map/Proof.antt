@@ -1,9 +1,7 @@
 -- Each group of registers is stored as its function ensures, over zeros and the configuration. Assumes nothing.
 use mathlib.Core.Path.{_≡_, _∙_}
-use lib.ListN.{length, set}
-use Rattle.cell.specs.Configuration.{e1}
-use Rattle.registers.specs.Map.{byteAt}
-use Rattle.registers.proofs.WholeLaws.{configuration-from, stored, whole-of, zerosWith}
+use lib.ListN.{length}
+use Rattle.registers.proofs.WholeLaws.{configuration-from, stored-of, then-pair, whole-of, zerosWith}
 use borrow.Author.Needs.{needs}
 use Rattle.registers.proofs.whole.whole_map.Statement.{statement}
 use Rattle.registers.proofs.whole.whole_map.Tie as tie
@@ -42,9 +40,10 @@ returns : tie.Need-returns
 returns c =
     let g = c .before .before .before .before .before .before .before .before .before .before .before .before .before .before .args .gauge in
     let p = c .before .before .before .before .before .before .before .before .before .before .put-configuration in
-    let put : c .put-pair .last .0 ≡ set (set (stored g (zerosWith (p .last .1 .0))) 0x20 (byteAt (e1 (g .configuration)) 0)) 0x21 (byteAt (e1 (g .configuration)) 1) = cc in
     let ten : length (g .configuration) ≡ 10 = search needs in
-    put ∙ whole-of g _ (p .ensures .0 ∙ configuration-from g ten (p .ensures .1))
+    let groups = stored-of g (zerosWith (p .last .1 .0)) (c .before .before .before .before .before .before .before .put-host .ensures) (c .before .before .before .before .before .put-capacities .ensures) (c .before .before .before .put-currents .ensures) in
+    let shown = p .ensures .0 ∙ configuration-from g ten (p .ensures .1) in
+    then-pair 0x20 (c .put-pair .ensures) groups (c .before .e1 .ensures) ∙ whole-of g _ shown
 
 pub whole-map-spec : {M : Type 1} → statement M
 whole-map-spec =
