@@ -12,10 +12,11 @@ need() {
     command -v "$1" >/dev/null || fail "$1 is missing${2:+: $2}"
 }
 
-# The proved bench program, proved and built if it is not there.
+# The proved bench program, proved and built if it is not there. Without its stamp rt builds it again, also if its proof is not new.
 bench() {
     if [ ! -x "$root/target/bin/bench" ]; then
         need rt "install the Rattle kit"
+        rm -f "$root/target/stamp/bench"
         (cd "$root" && rt check bench >&2) || fail "rt check bench"
     fi
     "$root/target/bin/bench"
