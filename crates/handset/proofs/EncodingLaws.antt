@@ -1,12 +1,12 @@
 -- The 41 bytes laid out from the fields' bytes. Assumes nothing.
 use mathlib.Core.List.{List, [], _∷_, _++_}
-use mathlib.Core.Path.{_≡_, refl, sym, ap, _∙_, subst}
+use mathlib.Core.Path.{_≡_, sym, ap, _∙_}
 use Prim.Native.Nat.{ℕ}
 use lib.ListN.{drop, getD, length, take}
 use lib.Seq.{drop-length}
 use Rattle.gauge.specs.declared.state.Gauge.{Gauge}
 use Rattle.registers.specs.Values.{flags}
-use Rattle.handset.specs.Form.{savedBytes, signedPair}
+use Rattle.handset.specs.Form.{savedBytes}
 
 -- c the configuration, h and d of eight bytes, the others of two
 unfoldable pub laidOut : List ℕ → List ℕ → List ℕ → List ℕ → List ℕ → List ℕ → List ℕ → List ℕ → List ℕ → ℕ → ℕ → List ℕ

@@ -1,11 +1,11 @@
 -- A saved gauge reads back as itself, and what is read back saves as the same bytes. Assumes nothing.
 use mathlib.Core.Bool.{Bool, true, false, _&&_}
-use mathlib.Core.List.{List, [], _∷_}
+use mathlib.Core.List.{List, _∷_}
 use mathlib.Core.Path.{_≡_, refl, sym, ap, _∙_}
-use Prim.Native.Nat.{ℕ, _+_, _*_, _^_, _<_}
+use Prim.Native.Nat.{ℕ, _*_, _^_, _<_}
 use native.Mathlib.Omega.{arith}
 use lib.Dec.{eqb, leb}
-use lib.ListN.{drop, getD, length}
+use lib.ListN.{getD, length}
 use borrow.Author.Tests.{eqb-true}
 use Rattle.cell.specs.Choose.{choose}
 use Rattle.cell.specs.Configuration.{dmf, s0}
@@ -14,9 +14,9 @@ use Rattle.gauge.specs.Accepted.{accepted, currentAccepted, shownAccepted, zero
 use Rattle.gauge.specs.declared.answer.Answer.{Answer}
 use Rattle.gauge.specs.declared.state.Gauge.{Gauge}
 use Rattle.gauge.proofs.AcceptedLaws.{sound}
-use Rattle.gauge.proofs.BoolLaws.{and-left, and-right, and-both}
-use Rattle.registers.specs.Values.{flags, flagsByte}
-use Rattle.handset.specs.Form.{currentOf, flagSet, flagsFit, formFits, loadAnswer, loadRefusal, loadable, loaded, loadedCharge, loadedHost, loadedShown, rejectedAnswer, savedBytes, signedPair}
+use Rattle.gauge.proofs.BoolLaws.{and-left, and-right}
+use Rattle.registers.specs.Values.{flags}
+use Rattle.handset.specs.Form.{currentOf, flagsFit, formFits, loadAnswer, loadRefusal, loadable, loaded, loadedCharge, loadedHost, loadedShown, rejectedAnswer, savedBytes, signedPair}
 use Rattle.handset.specs.Little.{bytesAt, little, numberAt}
 use Rattle.handset.proofs.EncodingLaws.{laidOut, laid-out-alike}
 use Rattle.handset.proofs.FieldLaws.{byte-back, current-back, flags-back, pair-back, signed-fits}

@@ -5,7 +5,7 @@ use borrow.Author.Tests.{eq-eqb, ne-eqb}
 use borrow.Author.Needs.{needs}
 use Rattle.handset.specs.Calls.{openBytes, openNumber}
 use Rattle.handset.specs.Form.{savedBytes}
-use Rattle.gauge.specs.Opening.{openAnswer, openRefusal, opened}
+use Rattle.gauge.specs.Opening.{openAnswer, openRefusal}
 use Rattle.gauge.specs.declared.answer.Answer.{Answer}
 use Rattle.handset.proofs.calls.gauge_open.Statement.{statement}
 use Rattle.handset.proofs.calls.gauge_open.Tie as tie

@@ -5,7 +5,6 @@ use lib.IntN.{ℤ}
 use mir.Syntax.{w32}
 use mir.Val.{ofZ, toZ}
 use borrow.Author.Tests.{not-true, not-false}
-use Rattle.gauge.specs.declared.state.Gauge.{Gauge}
 use Rattle.handset.specs.Calls.{windowCall}
 use Rattle.handset.specs.Form.{loaded}
 use Rattle.cell.proofs.SignedLaws.{narrow}

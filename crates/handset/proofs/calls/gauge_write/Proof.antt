@@ -1,6 +1,6 @@
 -- The ways through a call on the saved bytes; a byte stored as given is put in its place. Assumes nothing.
 use mathlib.Core.Path.{_≡_, _∙_, sym, ap}
-use Prim.Native.Nat.{ℕ, _<_}
+use Prim.Native.Nat.{ℕ}
 use denote.Ref.{now}
 use native.Mathlib.Omega.{arith}
 use lib.ListN.{length, set}
@@ -51,7 +51,6 @@ same-length-3 c = search needs
 
 returns-3 : tie.Need-returns-3
 returns-3 c =
-    let a = c .before .before .before .before .before .before .before .before .before .before .before .args in
     let f = sym (c .before .before .before .before .before .before .before .before .form-fits .ensures) ∙ not-false _ (c .before .before .before .before .before .before .before .if1 .left) in
     done _ (writeCall (c .before .before .before .before .before .before .before .before .before .before .before .args .address) (c .before .before .before .before .before .before .before .before .before .before .before .args .value)) (write-rejects _ _) f _ (answered (c .before .before .before .before)) _ (c .before .before .if2 .left)
     (ap (λ (n : ℕ). set (now (c .before .before .before .before .before .before .before .before .before .before .before .args .saved)) n (c .before .before .before .before .before .before .before .before .before .before .before .args .value)) (c .host-place .ensures .0)

@@ -1,9 +1,7 @@
 -- The gauge of an opening that was refused for its length. Assumes nothing.
-use mathlib.Core.Path.{_∙_, ap}
 use borrow.Author.Needs.{needs}
 use Rattle.handset.specs.Form.{rejectedAnswer}
 use Rattle.gauge.specs.Opening.{openAnswer, openRefusal}
-use Rattle.gauge.specs.declared.answer.Answer.{Answer}
 use Rattle.handset.proofs.load.rejected.Statement.{statement}
 use Rattle.handset.proofs.load.rejected.Tie as tie
 
