@@ -1,5 +1,2 @@
-pub mod FeedLaws
-pub mod FilterLaws
-pub mod NamesLaws
-pub mod OutputLaws
-pub mod WindowLaws
+pub mod PrintLaws
+pub mod ReadLaws

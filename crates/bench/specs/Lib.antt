@@ -1,5 +1,1 @@
-pub mod Feed
-pub mod Filter
-pub mod Output
-pub mod Printed
-pub mod Window
+pub mod Print

@@ -1,132 +1,102 @@
--- A gauge that follows a history fits its 41 bytes, so they load as it; each call then leaves the bytes of the gauge that it
--- leaves. Assumes nothing.
-use mathlib.Core.Bool.{Bool, true, false, _&&_, _||_}
+-- An accepted gauge's bytes load as it, so each call on them leaves the bytes of the gauge that it leaves, and that gauge is accepted too.
+-- Assumes nothing.
+use mathlib.Core.Bool.{Bool, true, false, cond}
 use mathlib.Core.List.{List, [], _∷_}
-use mathlib.Core.Path.{_≡_, refl, sym, ap, _∙_, subst}
-use Prim.Native.Nat.{ℕ, _+_, _*_, _≤_, _<_}
+use mathlib.Core.Path.{_≡_, refl, sym, ap, _∙_}
+use Prim.Native.Nat.{ℕ, _<_}
 use native.Mathlib.Omega.{arith}
-use lib.Dec.{eqb, leb}
+use lib.Dec.{eqb}
 use lib.ListN.{getD, length}
-use borrow.Author.Tests.{eqb-true, leb-true}
-use Rattle.cell.specs.Choose.{choose}
-use Rattle.cell.specs.Configuration.{dmf, ilmd, islc}
-use Rattle.cell.specs.declared.current.Current.{Current}
-use Rattle.gauge.specs.Accepted.{accepted, currentAccepted, zeroOrBetween}
-use Rattle.gauge.specs.Answer.{answered, orElse}
-use Rattle.gauge.specs.Calls.{restAnswer, unlessRejected, windowAnswer, writeAnswer}
-use Rattle.gauge.specs.Opening.{openAnswer, openRefusal, opened}
+use borrow.Author.Tests.{eqb-true}
+use Rattle.gauge.specs.Answer.{answered}
+use Rattle.gauge.specs.Calls.{restAnswer, windowAnswer, writeAnswer}
+use Rattle.gauge.specs.Opening.{openRefusal, opened}
 use Rattle.gauge.specs.declared.answer.Answer.{Answer}
 use Rattle.gauge.specs.declared.state.Gauge.{Gauge}
-use Rattle.gauge.proofs.BoolLaws.{and-right}
 use Rattle.handset.specs.Calls.{callBytes, callNumber, openBytes, openNumber, readNumber, restCall, windowCall, writeCall}
-use Rattle.handset.specs.Form.{loadAnswer, savedBytes}
-use Rattle.handset.proofs.FieldLaws.{accepted-magnitude}
-use Rattle.handset.proofs.LittleLaws.{whole}
-use Rattle.handset.proofs.RoundTripLaws.{Fits, load-of-saved}
+use Rattle.history.specs.After.{after, gaugeAfter, numberOf}
 use Rattle.history.specs.Call as Call
-use Rattle.history.specs.Call.{Call, after, numberOf, stepped}
-use Rattle.history.specs.History as History
-use Rattle.history.specs.History.{History, afterCall}
-use Rattle.history.proofs.Following.{Follows, follows-accepted}
-use Rattle.history.proofs.ListLaws.{configuration-kept, opened-answer, opened-follows, step-follows}
-use Rattle.drive.specs.Drive.{EveryDrive, Holds, bytesAfter, calledBytes, calledNumber}
+use Rattle.history.specs.Call.{Call}
+use Rattle.history.specs.Claim.{Taken}
+use Rattle.history.proofs.ListLaws.{opened-answer, opened-taken}
+use Rattle.history.proofs.StayLaws.{stays-accepted}
+use Rattle.refusals.specs.Refusal as Refusal
+use Rattle.saved.specs.Load.{loadAnswer}
+use Rattle.saved.specs.Save.{lengthRefusal, savedBytes}
+use Rattle.saved.proofs.RoundTripLaws.{load-of-saved}
+use Rattle.drive.specs.Claim.{EveryDrive, Holds}
+use Rattle.drive.specs.Drive.{bytesAfter, calledBytes, calledNumber}
 
--- ---- a gauge that follows a history fits
+abbrev answer : Gauge → Answer
+answer g = record { number = Refusal.none; gauge = g }
 
-current-fits : (limit : ℕ) (i : Current) → currentAccepted limit i ≡ true → i .magnitude < 65_536
-unfolding currentAccepted
-current-fits limit i e = let h = accepted-magnitude (i .charging) (i .magnitude) limit e in omega arith
-
-range-fits : (least most n : ℕ) → most < 65_536 → zeroOrBetween least most n ≡ true → n < 65_536
-unfolding zeroOrBetween
-range-fits least most n h = go (eqb n 0) refl
-  where
-    go : (t : Bool) → eqb n 0 ≡ t → (t || (leb least n && leb n most)) ≡ true → n < 65_536
-    go true p e = let z = eqb-true n 0 p in omega arith
-    go false p e = let m = leb-true n most (and-right (leb least n) (leb n most) e) in omega arith
-
--- the ten bytes
-record TenBytes (c : List ℕ) : Type 0 where
-  pub ten : length c ≡ 10
-  pub byte : islc c < 256
-
-fits : (g : Gauge) (x : History) → Follows g x → TenBytes (g .configuration) → Fits g
-fits g x f t =
-    record {
-      configuration = whole 10 (g .configuration) (t .ten);
-      held = let w = f .bounded .sound .within in let l = f .bounded .lmd in omega arith;
-      dcr = let w = f .bounded .sound .run .within in omega arith;
-      lmd = let l = f .bounded .lmd in omega arith;
-      standby = let s = f .shown .standby in let b = t .byte in omega arith;
-      magnitude = current-fits (dmf (g .configuration)) (g .shown .current) (f .shown .current);
-      voltage = range-fits 2_600 4_500 (g .shown .voltage) (omega arith) (f .shown .voltage);
-      temperature = range-fits 1_012 1_372 (g .shown .temperature) (omega arith) (f .shown .temperature);
-      ar = let e = f .ar in let w = f .ar-within in omega arith;
-    }
-
-loads : (g : Gauge) (x : History) → Follows g x → TenBytes (g .configuration) → loadAnswer (savedBytes g) ≡ record { number = 0; gauge = g }
-loads g x f t = load-of-saved g (fits g x f t) (follows-accepted g x f)
+pub loads : (g : Gauge) → Taken g → loadAnswer (savedBytes g) ≡ answer g
+loads g k = load-of-saved g (k .fits) (k .accepted)
 
 -- ---- one call
 
-saved-choice : (t : Bool) (a g : Gauge) → choose t (savedBytes (choose t a g)) (savedBytes g) ≡ savedBytes (choose t a g)
-saved-choice true a g = refl
-saved-choice false a g = refl
+either : (t : Bool) (a g : Gauge) → cond t (savedBytes (cond t a g)) (savedBytes g) ≡ savedBytes (cond t a g)
+either true a g = refl
+either false a g = refl
 
-call-number : (g : Gauge) (call : Gauge → Answer) → loadAnswer (savedBytes g) ≡ record { number = 0; gauge = g }
-    → callNumber (savedBytes g) call ≡ (call g) .number
+call-number : (g : Gauge) (call : Gauge → Answer) → loadAnswer (savedBytes g) ≡ answer g → callNumber (savedBytes g) call ≡ (call g) .number
 unfolding callNumber
 call-number g call e = rw e
 
-call-bytes : (g next : Gauge) (n : ℕ) (call : Gauge → Answer) → loadAnswer (savedBytes g) ≡ record { number = 0; gauge = g }
-    → call g ≡ answered n g next → callBytes (savedBytes g) call ≡ savedBytes ((call g) .gauge)
+call-bytes : (g next : Gauge) (n : ℕ) (call : Gauge → Answer) → loadAnswer (savedBytes g) ≡ answer g → call g ≡ answered n g next
+    → callBytes (savedBytes g) call ≡ savedBytes ((call g) .gauge)
 unfolding callBytes callNumber
-call-bytes g next n call e a = rw (e, a) (saved-choice (eqb n 0) next g)
+call-bytes g next n call e a = rw (e, a) (either (eqb n 0) next g)
 
-module _ (g : Gauge) (x : History) (f : Follows g x) (t : TenBytes (g .configuration)) where
-  step-bytes : (call : Call) → calledBytes call (savedBytes g) ≡ savedBytes (stepped call g)
-  unfolding calledBytes stepped windowAnswer restAnswer writeAnswer
-  step-bytes (Call.window a v u) = call-bytes g _ _ (windowCall a v u) (loads g x f t) refl
-  step-bytes (Call.rest n u) = call-bytes g _ _ (restCall n u) (loads g x f t) refl
-  step-bytes (Call.write address value) = call-bytes g _ _ (writeCall address (value .number)) (loads g x f t) refl
+module _ (g : Gauge) (k : Taken g) where
+  step-bytes : (call : Call) → calledBytes call (savedBytes g) ≡ savedBytes (gaugeAfter call g)
+  unfolding calledBytes gaugeAfter windowAnswer restAnswer writeAnswer
+  step-bytes (Call.window a v t) = call-bytes g _ _ (windowCall a v t) (loads g k) refl
+  step-bytes (Call.rest n t) = call-bytes g _ _ (restCall n t) (loads g k) refl
+  step-bytes (Call.write address value) = call-bytes g _ _ (writeCall address (value .number)) (loads g k) refl
   step-bytes (Call.read address count place replyLength) = refl
 
-  step-numbers : (call : Call) → calledNumber call (savedBytes g) ≡ numberOf call g
+  pub step-numbers : (call : Call) → calledNumber call (savedBytes g) ≡ numberOf call g
   unfolding calledNumber numberOf readNumber
-  step-numbers (Call.window a v u) = call-number g (windowCall a v u) (loads g x f t)
-  step-numbers (Call.rest n u) = call-number g (restCall n u) (loads g x f t)
-  step-numbers (Call.write address value) = call-number g (writeCall address (value .number)) (loads g x f t)
-  step-numbers (Call.read address count place replyLength) = rw (loads g x f t)
+  step-numbers (Call.window a v t) = call-number g (windowCall a v t) (loads g k)
+  step-numbers (Call.rest n t) = call-number g (restCall n t) (loads g k)
+  step-numbers (Call.write address value) = call-number g (writeCall address (value .number)) (loads g k)
+  step-numbers (Call.read address count place replyLength) = rw (loads g k)
 
 -- ---- every list
 
-list-holds : (calls : List Call) (g : Gauge) (x : History) → Follows g x → TenBytes (g .configuration)
-    → Holds (bytesAfter calls (savedBytes g)) (after calls g)
+pub list-bytes : (calls : List Call) (g : Gauge) → Taken g → bytesAfter calls (savedBytes g) ≡ savedBytes (after calls g)
 unfolding bytesAfter after
-list-holds [] g x f t = record { bytes = refl; numbers = step-numbers g x f t }
-list-holds (call ∷ calls) g x f t =
-    rw (step-bytes g x f t call)
-    (list-holds calls (stepped call g) (afterCall (g .configuration) call x) (step-follows call g x f)
-    (subst TenBytes (sym (configuration-kept call g)) t))
+list-bytes [] g k = refl
+list-bytes (call ∷ calls) g k = rw (step-bytes g k call) (list-bytes calls (gaugeAfter call g) (stays-accepted g k call))
 
-open-0 : (p q n : Bool) → orElse (choose p (choose q 2 0) 1) (choose n 0 13) ≡ 0 → (choose {A = ℕ} p (choose q 2 0) 1 ≡ 0) × (p ≡ true)
-open-0 true true n e = let z : ⊥ = omega arith in absurd z
-open-0 true false n e = (refl, refl)
-open-0 false q n e = let z : ⊥ = omega arith in absurd z
+pub list-taken : (calls : List Call) (g : Gauge) → Taken g → Taken (after calls g)
+unfolding after
+list-taken [] g k = k
+list-taken (call ∷ calls) g k = list-taken calls (gaugeAfter call g) (stays-accepted g k call)
 
-opening : (c : List ℕ) (n : ℕ) → openNumber c n ≡ 0 → (openRefusal c ≡ 0) × (length c ≡ 10)
-unfolding openNumber openRefusal
-opening c n e =
-    let o = open-0 (eqb (length c) 10) (eqb (ilmd c) 0) (eqb n 41) e in
-    (o .0, eqb-true (length c) 10 (o .1))
+list-holds : (calls : List Call) (g : Gauge) → Taken g → Holds (bytesAfter calls (savedBytes g)) (after calls g)
+list-holds calls g k =
+    rw (list-bytes calls g k) (record { bytes = refl; numbers = step-numbers (after calls g) (list-taken calls g k) })
 
-opened-bytes : (c buffer : List ℕ) → openNumber c (length buffer) ≡ 0 → openBytes c buffer ≡ savedBytes (opened c)
+-- ---- opening
+
+first-none : (m n : ℕ) → cond (eqb m 0) n m ≡ 0 → m ≡ 0
+first-none m n e = go (eqb m 0) refl e
+  where
+    go : (t : Bool) → eqb m 0 ≡ t → cond t n m ≡ 0 → m ≡ 0
+    go true p q = eqb-true m 0 p
+    go false p q = q
+
+pub opens : (c : List ℕ) (n : ℕ) → openNumber c n ≡ Refusal.none → openRefusal c ≡ Refusal.none
+unfolding openNumber
+opens c n e = first-none (openRefusal c) (lengthRefusal n) e
+
+pub opened-bytes : (c buffer : List ℕ) → openNumber c (length buffer) ≡ Refusal.none → openBytes c buffer ≡ savedBytes (opened c)
 unfolding openBytes
 opened-bytes c buffer e = rw e
 
 pub every-drive : EveryDrive
-unfolding opened
 every-drive c buffer bytes e calls =
-    let o = opening c (length buffer) e in
-    rw (opened-bytes c buffer e, opened-answer c (o .0))
-    (list-holds calls (opened c) (History.opened c) (opened-follows c (bytes 0) (o .0)) (record { ten = o .1; byte = bytes 3 }))
+    let o = opens c (length buffer) e in
+    rw (opened-bytes c buffer e, opened-answer c o) (list-holds calls (opened c) (opened-taken c bytes o))

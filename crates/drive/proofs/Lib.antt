@@ -1,1 +1,3 @@
 pub mod DriveLaws
+pub mod HistoryLaws
+pub mod SavedLaws

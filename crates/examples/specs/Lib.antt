@@ -1,2 +1,4 @@
-pub mod Drive
+pub mod Bench
 pub mod Examples
+pub mod Numbers
+pub mod Rows

@@ -1,6 +1,5 @@
 pub mod AcceptedLaws
-pub mod BoolLaws
-pub mod CommandLaws
-pub mod ElementLaws
-pub mod RestLaws
+pub mod CallLaws
+pub mod GaugeLaws
+pub mod OpeningLaws
 pub mod WindowLaws

@@ -1,13 +1,8 @@
 pub mod Accepted
 pub mod Answer
 pub mod Calls
-pub mod Charge
-pub mod Command
-pub mod Ending
-pub mod Full
-pub mod Host
+pub mod Fits
 pub mod Obey
 pub mod Opening
 pub mod Rest
-pub mod Shown
 pub mod Window

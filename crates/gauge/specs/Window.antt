@@ -1,77 +1,37 @@
--- "A window" of paper 01: its five steps in order, from one gauge to the next. Definitions only; assumes nothing.
-use mathlib.Core.Bool.{Bool}
+-- "A window" of paper 01: its five steps, from one gauge to the next. What it reaches is decided first. Definitions only; assumes nothing.
 use Prim.Native.Nat.{ℕ}
-use Rattle.cell.specs.Configuration.{s0, sd}
-use Rattle.cell.specs.Current.{discharge}
-use Rattle.cell.specs.Leak.{leakRate}
-use Rattle.cell.specs.declared.current.Current.{Current}
-use Rattle.gauge.specs.Charge as Charge
-use Rattle.gauge.specs.Ending.{endingOf}
-use Rattle.gauge.specs.Full.{isFull}
-use Rattle.gauge.specs.Host as Host
-use Rattle.gauge.specs.Shown as Shown
-use Rattle.gauge.specs.declared.ending.Ending.{Ending}
+use Rattle.charge.specs.Charge.{leaked, moved}
+use Rattle.charge.specs.declared.charge.Charge.{Charge}
+use Rattle.configuration.specs.Terms.{termsOf}
+use Rattle.flags.specs.Flags.{clearedIf}
+use Rattle.grains.specs.Leak.{leakRate}
+use Rattle.host.specs.Host.{fullIf}
+use Rattle.reached.specs.Reached.{Reached, chargeReached, flagsEnded, reachedBy}
+use Rattle.sample.specs.Current.{discharge}
+use Rattle.sample.specs.Standby.{averaged}
+use Rattle.sample.specs.declared.current.Current.{Current}
 use Rattle.gauge.specs.declared.state.Gauge.{Gauge}
 
--- Step 1: the sample is stored and the leak taken, at the NAC from before
-unfoldable pub step1 : Current → ℕ → ℕ → Gauge → Gauge
-step1 c v t g =
-    record {
-      configuration = g .configuration;
-      charge = Charge.leaked (leakRate (sd (g .configuration)) t) (g .charge);
-      shown = Shown.measured c v t (g .shown);
-      host = g .host;
-    }
+-- Steps 1 and 2: the leak at the NAC from before, then the sum of the counted current, with the empty stop of step 3
+unfoldable pub summed : Current → ℕ → Gauge → Charge
+summed c t g = moved c (leaked (leakRate ((termsOf (g .configuration)) .sd) t) (g .charge))
 
--- Step 2: the counted current is summed
-unfoldable pub step2 : Gauge → Gauge
-step2 g =
-    record {
-      configuration = g .configuration;
-      charge = Charge.moved (g .shown .current) (g .charge);
-      shown = Shown.chargingCleared (g .shown);
-      host = g .host;
-    }
+-- what steps 3 and 4 find
+unfoldable pub reachedIn : Current → ℕ → ℕ → Gauge → Reached
+reachedIn c v t g = reachedBy (termsOf (g .configuration)) c v t (summed c t g)
 
--- what step 3 finds
-unfoldable pub fullAt : Gauge → Bool
-fullAt g = isFull (g .configuration) (g .shown .current) (g .shown .voltage) (g .charge .held) (g .charge .lmd)
-
--- Step 3: full; the empty stop is in `Charge.moved`
-unfoldable pub step3 : Gauge → Gauge
-step3 g =
-    record {
-      configuration = g .configuration;
-      charge = Charge.filledIf (fullAt g) (g .charge);
-      shown = g .shown;
-      host = Host.fullIf (fullAt g) (g .host);
-    }
-
--- what step 4 finds
-unfoldable pub endingAt : Gauge → Ending
-endingAt g =
-    endingOf (g .configuration) (g .charge .run .vdq) (discharge (g .shown .current)) (g .shown .voltage) (g .shown .temperature)
-
--- Step 4: the end-of-discharge voltages
-unfoldable pub step4 : Gauge → Gauge
-step4 g =
-    record {
-      configuration = g .configuration;
-      charge = Charge.ended (endingAt g) (g .charge);
-      shown = Shown.ended (endingAt g) (g .shown);
-      host = g .host;
-    }
-
--- Step 5: the standby current
-unfoldable pub step5 : Gauge → Gauge
-step5 g =
-    record {
-      configuration = g .configuration;
-      charge = g .charge;
-      shown = Shown.averaged (s0 (g .configuration)) (g .shown);
-      host = g .host;
-    }
-
--- "In order"
 unfoldable pub window : Current → ℕ → ℕ → Gauge → Gauge
-window c v t g = step5 (step4 (step3 (step2 (step1 c v t g))))
+window c v t g =
+    record {
+      configuration = g .configuration;
+      -- Steps 3 and 4
+      charge = chargeReached (reachedIn c v t g) (summed c t g);
+      -- Step 1: "VOLT = v, TEMP = t, IAV (the sheet's average current) = |c|, CHGS set if c > 0, else clear"
+      sample = record { current = c; voltage = v; temperature = t };
+      -- Step 5
+      standby = averaged ((termsOf (g .configuration)) .s0) (g .standby) (discharge c);
+      -- Steps 2 and 4
+      flags = flagsEnded ((reachedIn c v t g) .ending) (clearedIf (c .charging) (g .flags));
+      -- Step 3
+      host = fullIf ((reachedIn c v t g) .full) (g .host);
+    }

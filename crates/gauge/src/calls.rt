@@ -2,40 +2,29 @@
 ghost use mathlib.Core.Path.{_≡_};
 ghost use Rattle.gauge.specs.Calls as Spec;
 use crate::answer::Answer;
-use crate::command::decide;
-use crate::command::decision_number;
-use crate::host::Host;
 use crate::state::Gauge;
-use cell::configuration::dmf;
-use cell::sample::current;
-use cell::sample::current_in_range;
-use cell::sample::temperature;
-use cell::sample::temperature_in_range;
-use cell::sample::voltage;
-use cell::sample::voltage_in_range;
+use command::command::Decision;
+use command::command::decide;
+use configuration::configuration::dmf;
+use refusals::CURRENT_RANGE;
+use refusals::NONE;
+use refusals::NOT_WRITABLE;
+use refusals::REJECTED;
+use refusals::REST_LENGTH;
+use refusals::TEMPERATURE_RANGE;
+use refusals::VOLTAGE_RANGE;
+use sample::range::current;
+use sample::range::current_in_range;
+use sample::range::temperature;
+use sample::range::temperature_in_range;
+use sample::range::voltage;
+use sample::range::voltage_in_range;
 
-impl Host {
-    // A byte at MODE (1), AR low (2) or AR high (3).
-    pub(crate) fn stored(self, address: u32, value: u8) -> Host
-        ensures { λ r. ⌜ r ≡ Spec.stored address value self ⌝ }
-    {
-        let mode = self.mode;
-        let ar = self.ar;
-        if address == 1 {
-            return Host { mode: value, ar };
-        }
-        if address == 2 {
-            return Host {
-                mode,
-                ar: ar / 256 * 256 + value as u16,
-            };
-        }
-        Host {
-            mode,
-            ar: 256 * (value as u16) + ar % 256,
-        }
-    }
-}
+// "A rest of n windows (1 to 16,875)".
+const LONGEST_REST: u32 = 16_875;
+
+// The last address that the host may write: AR's high byte.
+const LAST_WRITABLE: u32 = 3;
 
 impl Gauge {
     // A window: current, voltage and temperature as handed in.
@@ -44,22 +33,34 @@ impl Gauge {
     {
         let gauge = self;
         if !gauge.accepted() {
-            return Answer { number: 14, gauge };
+            return Answer {
+                number: REJECTED,
+                gauge,
+            };
         }
         if !current_in_range(a) {
-            return Answer { number: 3, gauge };
+            return Answer {
+                number: CURRENT_RANGE,
+                gauge,
+            };
         }
         if !voltage_in_range(v) {
-            return Answer { number: 4, gauge };
+            return Answer {
+                number: VOLTAGE_RANGE,
+                gauge,
+            };
         }
         if !temperature_in_range(t) {
-            return Answer { number: 5, gauge };
+            return Answer {
+                number: TEMPERATURE_RANGE,
+                gauge,
+            };
         }
         let configuration = gauge.configuration;
         let counted = current(a).counted(dmf(configuration));
         let stepped = gauge.stepped(counted, voltage(v), temperature(t));
         Answer {
-            number: 0,
+            number: NONE,
             gauge: stepped,
         }
     }
@@ -70,20 +71,32 @@ impl Gauge {
     {
         let gauge = self;
         if !gauge.accepted() {
-            return Answer { number: 14, gauge };
+            return Answer {
+                number: REJECTED,
+                gauge,
+            };
         }
         if windows == 0 {
-            return Answer { number: 6, gauge };
+            return Answer {
+                number: REST_LENGTH,
+                gauge,
+            };
         }
-        if 16_875 < windows {
-            return Answer { number: 6, gauge };
+        if LONGEST_REST < windows {
+            return Answer {
+                number: REST_LENGTH,
+                gauge,
+            };
         }
         if !temperature_in_range(t) {
-            return Answer { number: 5, gauge };
+            return Answer {
+                number: TEMPERATURE_RANGE,
+                gauge,
+            };
         }
         let rested = gauge.rested(windows, temperature(t));
         Answer {
-            number: 0,
+            number: NONE,
             gauge: rested,
         }
     }
@@ -92,29 +105,27 @@ impl Gauge {
     pub fn write(self, address: u32, value: u8) -> Answer
         ensures { λ r. ⌜ r ≡ Spec.writeAnswer self address value ⌝ }
     {
-        let gauge = self;
+        let mut gauge = self;
         if !gauge.accepted() {
-            return Answer { number: 14, gauge };
+            return Answer {
+                number: REJECTED,
+                gauge,
+            };
         }
-        if 3 < address {
-            return Answer { number: 7, gauge };
+        if LAST_WRITABLE < address {
+            return Answer {
+                number: NOT_WRITABLE,
+                gauge,
+            };
         }
         if address == 0 {
             return gauge.keyed(value);
         }
-        let configuration = gauge.configuration;
-        let charge = gauge.charge;
-        let shown = gauge.shown;
         let host = gauge.host.stored(address, value);
-        let written = Gauge {
-            configuration,
-            charge,
-            shown,
-            host,
-        };
+        gauge.host = host;
         Answer {
-            number: 0,
-            gauge: written,
+            number: NONE,
+            gauge,
         }
     }
 
@@ -122,16 +133,19 @@ impl Gauge {
     fn keyed(self, key: u8) -> Answer
         ensures { λ r. ⌜ r ≡ Spec.keyAnswer self key ⌝ }
     {
-        let gauge = self;
-        let decision = decide(key, gauge.host.mode);
-        let number = decision_number(decision, gauge.host.ar);
-        if number == 0 {
-            let obeyed = gauge.obeyed(decision);
-            return Answer {
-                number: 0,
-                gauge: obeyed,
-            };
+        let decision = decide(key, self.host.mode, self.host.ar);
+        match decision {
+            Decision::Obey(command) => {
+                let gauge = self.obeyed(command);
+                Answer {
+                    number: NONE,
+                    gauge,
+                }
+            }
+            Decision::Refused(number) => {
+                let gauge = self;
+                Answer { number, gauge }
+            }
         }
-        Answer { number, gauge }
     }
 }

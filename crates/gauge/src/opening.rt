@@ -1,82 +1,36 @@
 // "Opening".
 ghost use mathlib.Core.Path.{_≡_};
-ghost use lib.ListN.{length};
 ghost use Rattle.gauge.specs.Opening as Spec;
 use crate::answer::Answer;
-use crate::charge::Charge;
-use crate::host::Host;
-use crate::shown::Shown;
 use crate::state::Gauge;
-use cell::configuration::Configuration;
-use cell::configuration::design_capacity;
-use cell::configuration::ilmd;
-use cell::configuration::opened_mode;
-use cell::configuration::s0;
-use cell::current::Current;
-use cell::run::Run;
+use charge::charge::Charge;
+use configuration::configuration::Configuration;
+use configuration::configuration::ilmd;
+use configuration::configuration::s0;
+use flags::flags::Flags;
+use host::host::Host;
+use numbers::little::ten_at;
+use refusals::CONFIGURATION_LENGTH;
+use refusals::ILMD_ZERO;
+use refusals::NONE;
+use sample::sample::Sample;
 
-pub(crate) fn opened_charge(configuration: Configuration) -> Charge
-    ensures { λ r. ⌜ r ≡ Spec.openedCharge configuration ⌝ }
-{
-    let lmd = design_capacity(configuration);
-    let run = Run::none();
-    Charge { held: 0, lmd, run }
-}
-
-// The sample, SI and the flags as opened, but CI as it is given.
-pub(crate) fn opened_shown(configuration: Configuration, ci: bool) -> Shown
-    ensures { λ r. ⌜ r ≡ Spec.openedShown configuration ci ⌝ }
-{
-    let current = Current::none();
-    let standby = s0(configuration);
-    Shown {
-        current,
-        voltage: 0,
-        temperature: 0,
-        standby,
-        ci,
-        edv1: false,
-        edvf: false,
-    }
-}
-
-pub(crate) fn opened_host(configuration: Configuration) -> Host
-    ensures { λ r. ⌜ r ≡ Spec.openedHost configuration ⌝ }
-{
-    let mode = opened_mode(configuration);
-    Host { mode, ar: 0 }
-}
-
-pub(crate) fn opened(configuration: Configuration) -> Gauge
+fn opened(configuration: Configuration) -> Gauge
     ensures { λ r. ⌜ r ≡ Spec.opened configuration ⌝ }
 {
-    let charge = opened_charge(configuration);
-    let shown = opened_shown(configuration, true);
-    let host = opened_host(configuration);
+    let charge = Charge::opened(configuration);
+    let sample = Sample::none();
+    let standby = s0(configuration);
+    let flags = Flags::opened(true);
+    let host = Host::opened(configuration);
     Gauge {
         configuration,
         charge,
-        shown,
+        sample,
+        standby,
+        flags,
         host,
     }
-}
-
-fn ten_bytes(bytes: &[u8]) -> Configuration
-    requires { ⌜ length (now bytes) ≡ 10 ⌝ }
-    ensures { λ r. ⌜ r ≡ now (bytes .entry) ⌝ }
-{
-    [
-        bytes[0],
-        bytes[1],
-        bytes[2],
-        bytes[3],
-        bytes[4],
-        bytes[5],
-        bytes[6],
-        bytes[7],
-        bytes[8],
-        bytes[9],
-    ]
 }
 
 // Opening from bytes of any length: 1, 2, or the opened gauge.
@@ -85,13 +39,22 @@ pub fn open(bytes: &[u8]) -> Answer
 {
     if bytes.len() != 10 {
         let gauge = opened([0u8; 10]);
-        return Answer { number: 1, gauge };
+        return Answer {
+            number: CONFIGURATION_LENGTH,
+            gauge,
+        };
     }
-    let configuration = ten_bytes(bytes);
+    let configuration = ten_at(bytes, 0);
     if ilmd(configuration) == 0 {
         let gauge = opened([0u8; 10]);
-        return Answer { number: 2, gauge };
+        return Answer {
+            number: ILMD_ZERO,
+            gauge,
+        };
     }
     let gauge = opened(configuration);
-    Answer { number: 0, gauge }
+    Answer {
+        number: NONE,
+        gauge,
+    }
 }

@@ -1,12 +1,20 @@
 // The gauge, a value: the ten configuration bytes travel in it.
-use crate::charge::Charge;
-use crate::host::Host;
-use crate::shown::Shown;
-use cell::configuration::Configuration;
+use charge::charge::Charge;
+use configuration::configuration::Configuration;
+use flags::flags::Flags;
+use host::host::Host;
+use sample::sample::Sample;
 
 pub struct Gauge {
     pub configuration: Configuration,
+    // h, LMD and the run
     pub charge: Charge,
-    pub shown: Shown,
+    // c, VOLT and TEMP
+    pub sample: Sample,
+    // SI
+    pub standby: u16,
+    // CI, EDV1 and EDVF
+    pub flags: Flags,
+    // MODE and AR
     pub host: Host,
 }

@@ -1,69 +1,88 @@
 -- A host write's byte, put where the saved bytes hold it, makes them those of the gauge that was written to. Assumes nothing.
-use mathlib.Core.Bool.{Bool, true, false}
+use mathlib.Core.Bool.{Bool, true, false, cond}
 use mathlib.Core.List.{List}
 use mathlib.Core.Path.{_≡_, refl, sym, ap, _∙_}
 use Prim.Native.Nat.{ℕ, zero, suc, _+_, _*_, _/_, _%_, _≤_, _<_}
 use native.Mathlib.Omega.{arith}
-use lib.Dec.{ltb}
+use lib.Dec.{eqb, ltb}
 use lib.ListN.{getD, set}
-use borrow.Author.Tests.{ltb-false, ne-eqb}
-use Rattle.cell.specs.Choose.{choose}
+use borrow.Author.Tests.{eq-eqb, ltb-false, ne-eqb}
 use Rattle.gauge.specs.Accepted.{accepted}
-use Rattle.gauge.specs.Calls.{stored, storedAt, writeAnswer, writeRefusal, written}
+use Rattle.gauge.specs.Calls.{storedAt, writeAnswer, writeRefusal, written}
 use Rattle.gauge.specs.declared.answer.Answer.{Answer}
 use Rattle.gauge.specs.declared.state.Gauge.{Gauge}
-use Rattle.registers.specs.Values.{flags}
-use Rattle.handset.specs.Calls.{hostPlace}
-use Rattle.handset.specs.Form.{formFits, loaded, savedBytes}
-use Rattle.handset.proofs.LittleLaws.{whole}
-use Rattle.handset.proofs.RoundTripLaws.{form-length, saved-loaded}
+use Rattle.host.specs.Host.{stored}
+use Rattle.saved.specs.Form.{newest, savedLength}
+use Rattle.saved.specs.Load.{formFits, loaded}
+use Rattle.saved.specs.Save.{fieldBytes, fieldsBytes, savedBytes}
+use Rattle.saved.proofs.RoundTripLaws.{saved-loaded}
+use Rattle.handset.specs.Keep.{hostPlace}
+
+-- ---- where it stands
+
+pub place-of-mode : {address : ℕ} → address ≡ 1 → (39 ≡ hostPlace address) × (39 < savedLength)
+unfolding hostPlace
+place-of-mode {address} e = (simp (eq-eqb address 1 e), omega arith)
+
+pub place-of-low : {address : ℕ} → (address ≡ 1 → ⊥) → address ≡ 2 → (37 ≡ hostPlace address) × (37 < savedLength)
+unfolding hostPlace
+place-of-low {address} n e = (simp (ne-eqb address 1 n, eq-eqb address 2 e), omega arith)
+
+pub place-of-high : {address : ℕ} → (address ≡ 1 → ⊥) → (address ≡ 2 → ⊥) → (38 ≡ hostPlace address) × (38 < savedLength)
+unfolding hostPlace
+place-of-high {address} n m = (simp (ne-eqb address 1 n, ne-eqb address 2 m), omega arith)
 
 -- ---- one byte of a saved gauge
 
-at-mode : (g : Gauge) (value : ℕ) → set (savedBytes g) 39 value ≡ savedBytes (storedAt 1 value g)
-unfolding savedBytes storedAt stored flags
-at-mode g value = refl
+at-mode : (g : Gauge) (value : ℕ) → value < 256 → set (savedBytes g) 39 value ≡ savedBytes (storedAt 1 value g)
+unfolding savedBytes fieldsBytes fieldBytes storedAt stored
+at-mode g value h = let e : value ≡ value % 256 = omega arith in ap (set (savedBytes g) 39) e
 
-high-digit : (high low : ℕ) → low < 256 → (256 * high + low) / 256 ≡ high
-high-digit high low h = omega arith
+-- the two bytes of a pair
+first-digit : (low high : ℕ) → low < 256 → (low + 256 * high) % 256 ≡ low
+first-digit low high h = omega arith
+
+second-digit : (low high : ℕ) → low < 256 → high < 256 → (low + 256 * high) / 256 % 256 ≡ high
+second-digit low high h k =
+    let q : (low + 256 * high) / 256 ≡ high = omega arith in
+    ap (λ (n : ℕ). n % 256) q ∙ small high k
+  where
+    small : (n : ℕ) → n < 256 → n % 256 ≡ n
+    small n b = omega arith
 
 at-ar-low : (g : Gauge) (value : ℕ) → value < 256 → set (savedBytes g) 37 value ≡ savedBytes (storedAt 2 value g)
-unfolding savedBytes storedAt stored flags
+unfolding savedBytes fieldsBytes fieldBytes storedAt stored
 at-ar-low g value h =
-    let low : (g .host .ar / 256 * 256 + value) % 256 ≡ value = omega arith in
-    let turned : g .host .ar / 256 * 256 + value ≡ 256 * (g .host .ar / 256) + value = omega arith in
-    let high : (g .host .ar / 256 * 256 + value) / 256 % 256 ≡ g .host .ar / 256 % 256 =
-    ap (λ (n : ℕ). n / 256 % 256) turned ∙ ap (λ (n : ℕ). n % 256) (high-digit (g .host .ar / 256) value h) in
+    let kept : g .host .ar / 256 % 256 < 256 = omega arith in
+    let low = first-digit value (g .host .ar / 256 % 256) h in
+    let high = second-digit value (g .host .ar / 256 % 256) h kept in
     cc
 
 at-ar-high : (g : Gauge) (value : ℕ) → value < 256 → set (savedBytes g) 38 value ≡ savedBytes (storedAt 3 value g)
-unfolding savedBytes storedAt stored flags
+unfolding savedBytes fieldsBytes fieldBytes storedAt stored
 at-ar-high g value h =
-    let low : (256 * value + g .host .ar % 256) % 256 ≡ g .host .ar % 256 = omega arith in
-    let rest : g .host .ar % 256 < 256 = omega arith in
-    let same : value % 256 ≡ value = omega arith in
-    let high : (256 * value + g .host .ar % 256) / 256 % 256 ≡ value =
-    ap (λ (n : ℕ). n % 256) (high-digit value (g .host .ar % 256) rest) ∙ same in
+    let same : g .host .ar / 1 % 256 ≡ g .host .ar % 256 = omega arith in
+    let kept : g .host .ar / 1 % 256 < 256 = omega arith in
+    let low = first-digit (g .host .ar / 1 % 256) value kept in
+    let high = second-digit (g .host .ar / 1 % 256) value kept h in
     cc
 
 stored-saved : (g : Gauge) (address value : ℕ) → 0 < address → address ≤ 3 → value < 256
     → set (savedBytes g) (hostPlace address) value ≡ savedBytes (storedAt address value g)
 unfolding hostPlace
 stored-saved g zero value p q h = let no : ⊥ = omega arith in absurd no
-stored-saved g (suc zero) value p q h = at-mode g value
+stored-saved g (suc zero) value p q h = at-mode g value h
 stored-saved g (suc (suc zero)) value p q h = at-ar-low g value h
 stored-saved g (suc (suc (suc zero))) value p q h = at-ar-high g value h
 stored-saved g (suc (suc (suc (suc n)))) value p q h = let no : ⊥ = omega arith in absurd no
 
 -- ---- in the call's terms
 
-written-is : (g : Gauge) (address value : ℕ) → 0 < address → written address value g ≡ storedAt address value g
+written-is : (g : Gauge) (address value : ℕ) → (address ≡ 0 → ⊥) → written address value g ≡ storedAt address value g
 unfolding written
-written-is g address value p =
-    let ne : address ≡ 0 → ⊥ = λ e. omega arith in
-    simp (ne-eqb address 0 ne)
+written-is g address value n = simp (ne-eqb address 0 n)
 
-address-chosen : (t u : Bool) (address other : ℕ) → ltb 3 address ≡ u → choose t (choose u 7 other) 14 ≡ 0 → address ≤ 3
+address-chosen : (t u : Bool) (address other : ℕ) → ltb 3 address ≡ u → cond t (cond u 7 other) 14 ≡ 0 → address ≤ 3
 address-chosen false u address other e z = let no : ⊥ = omega arith in absurd no
 address-chosen true true address other e z = let no : ⊥ = omega arith in absurd no
 address-chosen true false address other e z = ltb-false 3 address e
@@ -78,13 +97,19 @@ unfolding writeAnswer
 gauge-is g address value z = simp z
 
 -- the bytes of the gauge that the write of a byte leads to
-pub byte-written : (bytes : List ℕ) → ((k : ℕ) → getD bytes k 0 < 256) → formFits bytes ≡ true
-    → (address value : ℕ) → 0 < address → value < 256 → (answer : Answer) → answer ≡ writeAnswer (loaded bytes) address value → answer .number ≡ 0
-    → set bytes (hostPlace address) value ≡ savedBytes (answer .gauge)
-byte-written bytes small f address value p h answer a z =
+pub byte-written : (bytes : List ℕ) → ((k : ℕ) → getD bytes k 0 < 256) → formFits newest bytes ≡ true
+    → (address value : ℕ) → (address ≡ 0 → ⊥) → value < 256 → {answer : Answer} {place : ℕ} → answer ≡ writeAnswer (loaded newest bytes) address value
+    → answer .number ≡ 0 → place ≡ hostPlace address → set bytes place value ≡ savedBytes (answer .gauge)
+byte-written bytes small f address value ne h a z p =
+    let g = loaded newest bytes in
     let n = ap (λ (x : Answer). x .number) (sym a) ∙ z in
-    let same = saved-loaded bytes small f ∙ whole 41 bytes (form-length bytes f) in
-    ap (λ (l : List ℕ). set l (hostPlace address) value) (sym same)
-    ∙ stored-saved (loaded bytes) address value p (address-within (loaded bytes) address value n) h
-    ∙ ap savedBytes (sym (written-is (loaded bytes) address value p) ∙ sym (gauge-is (loaded bytes) address value n))
+    let above : 0 < address = above-zero address ne in
+    ap (λ (k : ℕ). set bytes k value) p
+    ∙ ap (λ (l : List ℕ). set l (hostPlace address) value) (sym (saved-loaded bytes small f))
+    ∙ stored-saved g address value above (address-within g address value n) h
+    ∙ ap savedBytes (sym (written-is g address value ne) ∙ sym (gauge-is g address value n))
     ∙ ap (λ (x : Answer). savedBytes (x .gauge)) (sym a)
+  where
+    above-zero : (k : ℕ) → (k ≡ 0 → ⊥) → 0 < k
+    above-zero zero n = absurd (n refl)
+    above-zero (suc k) n = omega arith

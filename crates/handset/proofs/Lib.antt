@@ -1,6 +1,4 @@
 pub mod CallLaws
-pub mod EncodingLaws
-pub mod FieldLaws
 pub mod HostByteLaws
-pub mod LittleLaws
-pub mod RoundTripLaws
+pub mod KeepLaws
+pub mod ReadLaws

@@ -1,3 +1,2 @@
 pub mod Calls
-pub mod Form
-pub mod Little
+pub mod Keep

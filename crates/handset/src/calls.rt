@@ -2,14 +2,16 @@
 // changes no byte of any buffer. Bytes in the form hold a gauge value, and the proved call answers 14 where it is rejected, so
 // acceptance is tested once.
 ghost use mathlib.Core.Path.{_≡_};
-ghost use Prim.Native.Nat.{_≤_};
 ghost use lib.ListN.{length};
 ghost use Rattle.handset.specs.Calls as Spec;
-use crate::load::decoded;
-use crate::load::form_fits;
-use crate::save::store;
+use crate::keep::host_place;
+use crate::keep::keep;
 use gauge::opening::open;
-use registers::read::read;
+use refusals::NONE;
+use refusals::REJECTED;
+use registers::reading::read;
+use saved::load::decoded;
+use saved::load::form_fits;
 
 // uint32_t gauge_open(const uint8_t *configuration, size_t length, uint8_t *saved, size_t saved_length): 1, 2, 13.
 #[no_mangle]
@@ -18,15 +20,7 @@ pub extern "C" fn gauge_open(configuration: &[u8], saved: &mut [u8]) -> u32
     ensures bytes { λ _. ⌜ now (saved .exit) ≡ Spec.openBytes (now (configuration .entry)) (now (saved .entry)) ⌝ }
 {
     let answer = open(configuration);
-    if answer.number != 0 {
-        return answer.number;
-    }
-    if saved.len() != 41 {
-        return 13;
-    }
-    let gauge = answer.gauge;
-    store(gauge, saved);
-    0
+    keep(answer, saved)
 }
 
 // uint32_t gauge_window(uint8_t *saved, size_t saved_length, int32_t current, int32_t voltage, int32_t temperature): 14, 3, 4, 5.
@@ -41,16 +35,11 @@ pub extern "C" fn gauge_window(
     ensures bytes { λ _. ⌜ now (saved .exit) ≡ Spec.callBytes (now (saved .entry)) (Spec.windowCall current voltage temperature) ⌝ }
 {
     if !form_fits(saved) {
-        return 14;
+        return REJECTED;
     }
     let gauge = decoded(saved);
     let answer = gauge.window(current, voltage, temperature);
-    if answer.number != 0 {
-        return answer.number;
-    }
-    let next = answer.gauge;
-    store(next, saved);
-    0
+    keep(answer, saved)
 }
 
 // uint32_t gauge_rest(uint8_t *saved, size_t saved_length, uint32_t windows, int32_t temperature): 14, 6, 5.
@@ -60,30 +49,11 @@ pub extern "C" fn gauge_rest(saved: &mut [u8], windows: u32, temperature: i32) -
     ensures bytes { λ _. ⌜ now (saved .exit) ≡ Spec.callBytes (now (saved .entry)) (Spec.restCall windows temperature) ⌝ }
 {
     if !form_fits(saved) {
-        return 14;
+        return REJECTED;
     }
     let gauge = decoded(saved);
     let answer = gauge.rest(windows, temperature);
-    if answer.number != 0 {
-        return answer.number;
-    }
-    let next = answer.gauge;
-    store(next, saved);
-    0
-}
-
-// Where the saved bytes hold the byte that a host write stores: MODE at 1, AR low at 2 or AR high at 3.
-fn host_place(address: u32) -> usize
-    ensures { λ r. ⌜ r ≡ Spec.hostPlace address ⌝ }
-    ensures range { λ r. ⌜ r ≤ 39 ⌝ }
-{
-    if address == 1 {
-        return 39;
-    }
-    if address == 2 {
-        return 37;
-    }
-    38
+    keep(answer, saved)
 }
 
 // uint32_t gauge_write(uint8_t *saved, size_t saved_length, uint32_t address, uint8_t value): 14, 7 to 11. A byte that is stored as
@@ -94,21 +64,19 @@ pub extern "C" fn gauge_write(saved: &mut [u8], address: u32, value: u8) -> u32
     ensures bytes { λ _. ⌜ now (saved .exit) ≡ Spec.callBytes (now (saved .entry)) (Spec.writeCall address value) ⌝ }
 {
     if !form_fits(saved) {
-        return 14;
+        return REJECTED;
     }
     let gauge = decoded(saved);
     let answer = gauge.write(address, value);
-    if answer.number != 0 {
+    if address == 0 {
+        return keep(answer, saved);
+    }
+    if answer.number != NONE {
         return answer.number;
     }
-    if 0 < address {
-        let place = host_place(address);
-        saved[place] = value;
-        return 0;
-    }
-    let next = answer.gauge;
-    store(next, saved);
-    0
+    let place = host_place(address);
+    saved[place] = value;
+    NONE
 }
 
 // uint32_t gauge_read(const uint8_t *saved, size_t saved_length, uint32_t address, uint32_t count, uint8_t *reply, size_t reply_length,
@@ -125,7 +93,7 @@ pub extern "C" fn gauge_read(
     ensures bytes { λ _. ⌜ now (reply .exit) ≡ Spec.readReply (now (saved .entry)) address count place (now (reply .entry)) ⌝ }
 {
     if !form_fits(saved) {
-        return 14;
+        return REJECTED;
     }
     let gauge = decoded(saved);
     read(gauge, address, count, reply, place)

@@ -1,6 +1,3 @@
-// The handset's saved gauge, 41 bytes and back, and the calls from C on those bytes.
+// The calls from C on the saved bytes.
 pub mod calls;
-mod little;
-pub mod load;
-pub mod round_trip;
-pub mod save;
+mod keep;

@@ -1,14 +1,14 @@
--- An integer as the difference of two naturals, so that arithmetic on naturals decides it. Assumes nothing.
+-- An integer as the difference of two naturals, so that arithmetic on naturals decides it: sums, differences and the product by 192,000
+-- are those of the two naturals. Assumes nothing.
 use mathlib.Core.Bool.{Bool, true, false, cond}
-use mathlib.Core.Path.{_≡_, refl, sym, ap, _∙_}
+use mathlib.Core.Path.{_≡_, refl, ap}
 use Prim.Native.Nat.{ℕ, zero, suc, _+_, _-_, _*_, _≤_, _<_}
 use native.Mathlib.Omega.{arith}
-use lib.Dec.{leb, ltb}
+use lib.Dec.{ltb}
 use lib.IntN.{ℤ, pos, negsuc, negℤ, subℕ, _+ℤ_, _-ℤ_, _*ℤ_}
 use lib.Signed.{leZ}
 use borrow.Author.Tests.{ltb-true, ltb-false, le-leb, lt-leb}
-use Rattle.cell.specs.Grains.{grainsPerUnit}
-use Rattle.history.specs.History.{natural}
+use Rattle.history.specs.Sums.{grainsAUnit}
 
 abbrev above : ℤ → ℕ
 above (pos n) = n
@@ -28,7 +28,7 @@ of-natural n = record { balance = omega arith }
 pub of-parts : (z : ℤ) → Difference z (above z) (below z)
 of-parts z = record { balance = omega arith }
 
-pub negated : (z : ℤ) (a b : ℕ) → Difference z a b → Difference (negℤ z) b a
+negated : (z : ℤ) (a b : ℕ) → Difference z a b → Difference (negℤ z) b a
 negated (pos zero) a b d = let e = d .balance in record { balance = omega arith }
 negated (pos (suc n)) a b d = let e = d .balance in record { balance = omega arith }
 negated (negsuc n) a b d = let e = d .balance in record { balance = omega arith }
@@ -56,13 +56,11 @@ sum x y a b c d p q =
 pub less : (x y : ℤ) (a b c d : ℕ) → Difference x a b → Difference y c d → Difference (x -ℤ y) (a + d) (b + c)
 less x y a b c d p q = sum x (negℤ y) a b d c p (negated y c d q)
 
-pub scaled : (z : ℤ) (a b : ℕ) → Difference z a b → Difference (pos grainsPerUnit *ℤ z) (grainsPerUnit * a) (grainsPerUnit * b)
+pub scaled : (z : ℤ) (a b : ℕ) → Difference z a b → Difference (pos grainsAUnit *ℤ z) (grainsAUnit * a) (grainsAUnit * b)
 scaled (pos n) a b d = let e = d .balance in record { balance = omega arith }
-scaled (negsuc n) a b d = negated (pos (grainsPerUnit * suc n)) (grainsPerUnit * b) (grainsPerUnit * a) (record { balance = let e = d .balance in omega arith })
-
-pub natural-is : (z : ℤ) (a b : ℕ) → Difference z a b → natural z ≡ a - b
-natural-is (pos n) a b d = let e = d .balance in omega arith
-natural-is (negsuc n) a b d = let e = d .balance in omega arith
+scaled (negsuc n) a b d =
+    negated (pos (grainsAUnit * suc n)) (grainsAUnit * b) (grainsAUnit * a)
+    (record { balance = let e = d .balance in omega arith })
 
 pub is-natural : (z : ℤ) (a b : ℕ) → b ≤ a → Difference z a b → z ≡ pos (a - b)
 is-natural (pos n) a b h d =
@@ -90,6 +88,3 @@ above-zero (negsuc n) a b h d =
     let e = d .balance in
     let f : ⊥ = omega arith in
     absurd f
-
-pub settled : (z : ℤ) (a b : ℕ) → b ≤ a → Difference z a b → Difference z (a - b) 0
-settled z a b h d = let e = d .balance in record { balance = omega arith }

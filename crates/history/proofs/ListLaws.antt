@@ -1,144 +1,164 @@
--- Demand 3: what holds of a gauge and its history holds after each call, and so after every list. Assumes nothing.
-use mathlib.Core.Bool.{Bool, true, false}
+-- Every list of calls, by induction: a call keeps what holds of an accepted gauge and its history, and a refused one leaves both. A history
+-- begins beside any accepted gauge, and the opened one is that of the opened gauge, which gives demand 3. Assumes nothing.
+use mathlib.Core.Bool.{Bool, true, false, cond}
 use mathlib.Core.List.{List, [], _∷_}
-use mathlib.Core.Path.{_≡_, refl, sym, ap, _∙_, subst}
-use Prim.Native.Nat.{ℕ, _-_, _<_}
+use mathlib.Core.Option.{none, some}
+use mathlib.Core.Path.{_≡_, refl, sym, ap, _∙_}
+use Prim.Native.Nat.{ℕ, _<_}
 use native.Mathlib.Omega.{arith}
 use lib.Dec.{eqb}
-use lib.IntN.{pos}
-use lib.ListN.{length}
+use lib.ListN.{getD, length}
 use borrow.Author.Tests.{eqb-true, eqb-false}
-use Rattle.cell.specs.Choose.{choose}
-use Rattle.cell.specs.Configuration.{dmf, ilmd, sd}
-use Rattle.cell.specs.Current.{counted}
-use Rattle.cell.specs.Leak.{leakRate}
-use Rattle.cell.specs.Sample.{current, currentInRange, temperature, temperatureInRange, voltage, voltageInRange}
-use Rattle.gauge.specs.Calls.{restAnswer, restLength, restRefusal, sampleRefusal, storedAt, unlessRejected, windowAnswer, writeAnswer, writeRefusal, written}
-use Rattle.gauge.specs.Command.{decide}
-use Rattle.gauge.specs.Obey.{obeyed}
-use Rattle.gauge.specs.Opening.{opened, openAnswer, openRefusal, openedHost}
-use Rattle.gauge.specs.Rest.{rest}
-use Rattle.gauge.specs.Window.{step1, step2, step3, step4, step5, window}
+use Rattle.charge.specs.Charge.{openedCharge}
+use Rattle.charge.proofs.ChargeLaws.{RunSound}
+use Rattle.configuration.specs.Configuration.{dmf, ilmd, s0}
+use Rattle.configuration.specs.Terms.{termsOf}
+use Rattle.gauge.specs.Accepted.{accepted}
+use Rattle.gauge.specs.Answer.{answered, unlessRejected}
+use Rattle.gauge.specs.Calls.{restAnswer, restInRange, restRefusal, sampleRefusal, windowAnswer, writeAnswer, writeRefusal}
+use Rattle.gauge.specs.Opening.{openAnswer, openRefusal, opened}
 use Rattle.gauge.specs.declared.state.Gauge.{Gauge}
-use Rattle.registers.specs.Reading.{placeRefusal}
-use Rattle.history.specs.Call.{Call, after, stepped}
+use Rattle.gauge.proofs.AcceptedLaws.{sound-accepted}
+use Rattle.grains.specs.declared.run.Run.{Run}
+use Rattle.host.specs.Host.{openedHost}
+use Rattle.numbers.proofs.BoolLaws.{not-is-true}
+use Rattle.refusals.specs.Refusal as Refusal
+use Rattle.history.specs.After.{after, gaugeAfter, numberOf}
+use Rattle.history.specs.Call.{Call}
 use Rattle.history.specs.Call as Call
-use Rattle.history.specs.Claim.{Agrees, Demand3}
-use Rattle.history.specs.History.{History, chargeOf, afterCall, afterCalls, refusalOf, worked, windowOf}
-use Rattle.history.specs.History as History
-use Rattle.history.proofs.CommandLaws.{opened-bounded, opened-tracks}
-use Rattle.history.proofs.DifferenceLaws.{is-natural}
-use Rattle.history.proofs.ShownLaws.{opened-shown}
-use Rattle.history.proofs.Following.{Follows, follows-accepted}
-use Rattle.history.proofs.NumberLaws.{never-14, numbers-alike, rest-in-range, sample-in-range, write-alike}
-use Rattle.history.proofs.RestFollows.{rest-follows}
-use Rattle.history.proofs.WindowFollows.{window-follows}
-use Rattle.history.proofs.WriteFollows.{written-follows}
+use Rattle.history.specs.Claim.{Agrees, Demand3, FromAnyGauge, Taken, begun, drainOf, runOf}
+use Rattle.history.specs.History.{History, afterCall, afterCalls, afterWork, openedHistory}
+use Rattle.history.specs.Refused.{refusalOf}
+use Rattle.history.proofs.AnswerLaws.{not-rejected, rest-in-range, window-in-range}
+use Rattle.history.proofs.BesideLaws.{Beside, rest-beside, window-beside, written-beside}
+use Rattle.history.proofs.ChargeKept.{opened-bounded}
+use Rattle.history.proofs.HostKept.{opened-fits}
+use Rattle.history.proofs.NumberLaws.{number-most, numbers-alike}
+use Rattle.history.proofs.SampleKept.{no-sample, opened-standby}
+use Rattle.history.proofs.Standing.{Standing, standing, taken}
+use Rattle.history.proofs.StayLaws.{call-stands}
+use Rattle.history.proofs.Tracking.{fixed-is}
 
 -- ---- one call
 
-pub step-follows : (call : Call) (g : Gauge) (x : History) → Follows g x → Follows (stepped call g) (afterCall (g .configuration) call x)
-unfolding stepped afterCall refusalOf worked windowAnswer restAnswer writeAnswer
-step-follows (Call.window a v t) g x f = rw (follows-accepted g x f) (go (eqb (sampleRefusal a v t) 0) refl)
+-- done alike where the number is 0, else both as they were
+answered-beside : (n : ℕ) (g next : Gauge) (x y : History) → Beside g x → (n ≡ 0 → Beside next y)
+    → Beside ((answered n g next) .gauge) (cond (eqb n 0) y x)
+answered-beside n g next x y f work = go (eqb n 0) refl
   where
-    c : List ℕ
-    c = g .configuration
-
-    go : (s : Bool) → eqb (sampleRefusal a v t) 0 ≡ s
-        → Follows (choose s (window (counted (dmf (g .configuration)) (current a)) (voltage v) (temperature t) g) g)
-        (choose s (windowOf (g .configuration) (counted (dmf (g .configuration)) (current a)) (voltage v) (temperature t) x) x)
-    go true e =
-        let i = sample-in-range (currentInRange a) (voltageInRange v) (temperatureInRange t) e in
-        window-follows g x a v t f (i .0) (i .1) (i .2)
+    go : (t : Bool) → eqb n 0 ≡ t → Beside (cond t next g) (cond t y x)
+    go true e = work (eqb-true n 0 e)
     go false e = f
-step-follows (Call.rest n t) g x f = rw (follows-accepted g x f) (go (eqb (restRefusal n t) 0) refl)
-  where
-    go : (s : Bool) → eqb (restRefusal n t) 0 ≡ s
-        → Follows (choose s (rest n (temperature t) g) g) (choose s (History.rested n (leakRate (sd (g .configuration)) (temperature t)) x) x)
-    go true e = rest-follows g x n t f (rest-in-range (restLength n) (temperatureInRange t) e)
-    go false e = f
-step-follows (Call.write address value) g x f =
-    rw (follows-accepted g x f, write-alike g x address (value .number) f) (go (eqb (writeRefusal (x .mode) (x .ar) address (value .number)) 0) refl)
-  where
-    go : (s : Bool) → eqb (writeRefusal (x .mode) (x .ar) address (value .number)) 0 ≡ s
-        → Follows (choose s (written address (value .number) g) g) (choose s (History.written (g .configuration) address (value .number) x) x)
-    go true e = written-follows g x address value f (write-alike g x address (value .number) f ∙ eqb-true (writeRefusal (x .mode) (x .ar) address (value .number)) 0 e)
-    go false e = f
-step-follows (Call.read address count place replyLength) g x f = go (eqb (placeRefusal address count place replyLength) 0)
-  where
-    go : (s : Bool) → Follows g (choose s x x)
-    go true = f
-    go false = f
 
-kept-choice : (t : Bool) (a b : Gauge) (c : List ℕ) → a .configuration ≡ c → b .configuration ≡ c → (choose t a b) .configuration ≡ c
-kept-choice true a b c p q = p
-kept-choice false a b c p q = q
+either-beside : (t : Bool) (g : Gauge) (x : History) → Beside g x → Beside g (cond t x x)
+either-beside true g x f = f
+either-beside false g x f = f
 
-pub configuration-kept : (call : Call) (g : Gauge) → (stepped call g) .configuration ≡ g .configuration
-unfolding stepped windowAnswer restAnswer writeAnswer written window step1 step2 step3 step4 step5 rest obeyed storedAt
-configuration-kept (Call.window a v t) g =
-    kept-choice (eqb (unlessRejected g (sampleRefusal a v t)) 0)
-    (window (counted (dmf (g .configuration)) (current a)) (voltage v) (temperature t) g) g (g .configuration) refl refl
-configuration-kept (Call.rest n t) g =
-    kept-choice (eqb (unlessRejected g (restRefusal n t)) 0) (rest n (temperature t) g) g (g .configuration) refl refl
-configuration-kept (Call.write address value) g =
-    kept-choice (eqb (unlessRejected g (writeRefusal (g .host .mode) (g .host .ar) address (value .number))) 0)
-    (written address (value .number) g) g (g .configuration)
-    (kept-choice (eqb address 0) (obeyed (decide (value .number) (g .host .mode)) g) (storedAt address (value .number) g) (g .configuration) refl refl)
-    refl
-configuration-kept (Call.read address count place replyLength) g = refl
+pub call-beside : (call : Call) (g : Gauge) (x : History) → Standing g → Beside g x → Beside (gaugeAfter call g) (afterCall call x)
+unfolding gaugeAfter numberOf afterCall afterWork windowAnswer restAnswer writeAnswer
+call-beside (Call.window a v t) g x s f =
+    rw (← numbers-alike (Call.window a v t) g (x .host) (sound-accepted g (s .sound)) (f .host))
+    (answered-beside (unlessRejected g (sampleRefusal a v t)) g _ x _ f
+    (λ e. window-beside g x s f a v t (window-in-range a v t (not-rejected (accepted g) (sampleRefusal a v t) e))))
+call-beside (Call.rest n t) g x s f =
+    rw (← numbers-alike (Call.rest n t) g (x .host) (sound-accepted g (s .sound)) (f .host))
+    (answered-beside (unlessRejected g (restRefusal n t)) g _ x _ f
+    (λ e. rest-beside g x s f n t (rest-in-range (restInRange n) t (not-rejected (accepted g) (restRefusal n t) e))))
+call-beside (Call.write address value) g x s f =
+    rw (← numbers-alike (Call.write address value) g (x .host) (sound-accepted g (s .sound)) (f .host))
+    (answered-beside (unlessRejected g (writeRefusal (g .host .mode) (g .host .ar) address (value .number))) g _ x _ f
+    (λ e. written-beside g x s f address (value .number)))
+call-beside (Call.read address count place replyLength) g x s f =
+    either-beside (eqb (refusalOf (Call.read address count place replyLength) (x .host)) 0) g x f
 
 -- ---- every list
 
-pub list-follows : (calls : List Call) (g : Gauge) (x : History) → Follows g x → Follows (after calls g) (afterCalls (g .configuration) calls x)
+agrees : (g : Gauge) (x : History) → Standing g → Beside g x → Agrees g x
+agrees g x s f =
+    record {
+      held = sym (f .tracks .held);
+      lmd = f .tracks .lmd;
+      run = f .tracks .run;
+      refused = λ call. numbers-alike call g (x .host) (sound-accepted g (s .sound)) (f .host);
+      never = λ call e.
+          let n = numbers-alike call g (x .host) (sound-accepted g (s .sound)) (f .host) in
+          let m = number-most call (x .host) in
+          omega arith;
+    }
+
+pub list-agrees : (calls : List Call) (g : Gauge) (x : History) → Standing g → Beside g x → Agrees (after calls g) (afterCalls calls x)
 unfolding after afterCalls
-list-follows [] g x f = f
-list-follows (call ∷ calls) g x f =
-    subst (λ (c : List ℕ). Follows (after calls (stepped call g)) (afterCalls c calls (afterCall (g .configuration) call x)))
-    (configuration-kept call g) (list-follows calls (stepped call g) (afterCall (g .configuration) call x) (step-follows call g x f))
+list-agrees [] g x s f = agrees g x s f
+list-agrees (call ∷ calls) g x s f =
+    list-agrees calls (gaugeAfter call g) (afterCall call x) (call-stands call g s) (call-beside call g x s f)
+
+-- every gauge on the way is accepted
+pub list-stays : (calls : List Call) (g : Gauge) → Standing g → Standing (after calls g)
+unfolding after
+list-stays [] g s = s
+list-stays (call ∷ calls) g s = list-stays calls (gaugeAfter call g) (call-stands call g s)
+
+-- ---- from any gauge
+
+abbrev runWith : Bool → ℕ → Run
+runWith vdq dcr = record { vdq = vdq; dcr = dcr }
+
+run-begun : (r : Run) → RunSound r → r ≡ runOf (drainOf r)
+run-begun r s = go (r .vdq) refl
+  where
+    go : (t : Bool) → r .vdq ≡ t → r ≡ runOf (cond t (some (r .dcr)) none)
+    go true e = ap (λ (v : Bool). runWith v (r .dcr)) e
+    go false e = ap (λ (v : Bool). runWith v (r .dcr)) e ∙ ap (runWith false) (s .none e)
+
+begun-beside : (g : Gauge) → Standing g → Beside g (begun g)
+unfolding begun
+begun-beside g s =
+    record {
+      configuration = refl;
+      tracks = record { held = fixed-is (g .charge .held); lmd = refl; run = run-begun (g .charge .run) (s .sound .charge .run) };
+      host = record { mode = refl; ar = refl };
+    }
+
+pub from-any-gauge : FromAnyGauge
+from-any-gauge g k calls = list-agrees calls g (begun g) (standing g k) (begun-beside g (standing g k))
 
 -- ---- demand 3
 
-follows-agrees : (g : Gauge) (x : History) → Follows g x → Agrees g x
-follows-agrees g x f =
-    record {
-      held =
-          let e : g .charge .held ≡ g .charge .held - 0 = omega arith in
-          ap pos e ∙ sym (is-natural (chargeOf x) (g .charge .held) 0 (omega arith) (f .tracks .held));
-      lmd = f .tracks .lmd;
-      run = f .tracks .run;
-      refused = λ call. numbers-alike call g x f;
-      never = λ call e. never-14 call x (sym (numbers-alike call g x f) ∙ e);
-    }
-
-opened-number : (t u : Bool) → choose {A = ℕ} t (choose u 2 0) 1 ≡ 0 → u ≡ false
+opened-number : (t u : Bool) → cond t (cond u Refusal.ilmdZero Refusal.none) Refusal.configurationLength ≡ 0 → (t ≡ true) × (u ≡ false)
 opened-number true true e = let z : ⊥ = omega arith in absurd z
-opened-number true false e = refl
+opened-number true false e = (refl, refl)
 opened-number false u e = let z : ⊥ = omega arith in absurd z
 
-pub opened-follows : (c : List ℕ) → ilmd c < 256 → openRefusal c ≡ 0 → Follows (opened c) (History.opened c)
-unfolding opened openedHost History.opened openRefusal
-opened-follows c small e =
-    let n = eqb-false (ilmd c) 0 (opened-number (eqb (length c) 10) (eqb (ilmd c) 0) e) in
-    let p : 0 < ilmd c = omega arith in
+pub opened-stands : (c : List ℕ) → ((k : ℕ) → getD c k 0 < 256) → openRefusal c ≡ 0 → Standing (opened c)
+unfolding opened openRefusal
+opened-stands c bytes e =
+    let o = opened-number (eqb (length c) 10) (eqb (ilmd c) 0) e in
+    let n : ilmd c ≡ 0 → ⊥ = eqb-false (ilmd c) 0 (o .1) in
+    let q = bytes 0 in
+    let b = opened-bounded (termsOf c) (omega arith) (omega arith) in
     record {
-      opens = p;
-      byte = small;
-      tracks = opened-tracks c;
-      bounded = opened-bounded c p small;
-      shown = opened-shown c true;
-      mode = refl;
-      ar = refl;
-      ar-within = omega arith;
+      ten = record { ten = eqb-true (length c) 10 (o .0); bytes = bytes };
+      sound = record {
+        ilmd = not-is-true (eqb (ilmd c) 0) (o .1);
+        charge = b .sound;
+        standby = opened-standby (s0 c);
+        sample = no-sample (dmf c);
+      };
+      lmd = b .lmd;
+      host = opened-fits c (bytes 6);
     }
+
+pub opened-taken : (c : List ℕ) → ((k : ℕ) → getD c k 0 < 256) → openRefusal c ≡ 0 → Taken (opened c)
+opened-taken c bytes e = taken (opened c) (opened-stands c bytes e)
 
 pub opened-answer : (c : List ℕ) → openRefusal c ≡ 0 → (openAnswer c) .gauge ≡ opened c
 unfolding openAnswer
 opened-answer c e = rw e
 
+-- the opened history is the one that begins at the opened gauge, MODE and AR too
+pub opened-begun : (c : List ℕ) → openedHistory c ≡ begun (opened c)
+unfolding openedHistory begun opened openedCharge openedHost
+opened-begun c = refl
+
 pub demand-3 : Demand3
-unfolding opened
-demand-3 c bytes e calls =
-    rw (opened-answer c e)
-    (follows-agrees (after calls (opened c)) (afterCalls c calls (History.opened c))
-    (list-follows calls (opened c) (History.opened c) (opened-follows c (bytes 0) e)))
+demand-3 c bytes e calls = rw (opened-answer c e, opened-begun c) (from-any-gauge (opened c) (opened-taken c bytes e) calls)

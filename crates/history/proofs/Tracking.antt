@@ -1,112 +1,101 @@
--- What ties a gauge's charge to a history: the charge is H, the learned capacity L, and the run the history's. Laws of the
--- parts. Assumes nothing.
-use mathlib.Core.Bool.{Bool, true, false}
-use mathlib.Core.Path.{_≡_, refl, sym, ap, _∙_}
-use Prim.Native.Nat.{ℕ, _+_, _-_, _*_, _≤_, _<_}
+-- What ties a gauge's charge to a history: the charge held is H, LMD is L, and the run the history's. H as a difference of naturals, and
+-- the history's run beside the gauge's. Assumes nothing.
+use mathlib.Core.Bool.{Bool, true, false, cond}
+use mathlib.Core.Option.{Option, none, some}
+use mathlib.Core.Path.{_≡_, refl, ap, _∙_}
+use Prim.Native.Nat.{ℕ, _+_, _-_, _*_, _≤_}
 use native.Mathlib.Omega.{arith}
-use lib.IntN.{ℤ, pos, _-ℤ_, _*ℤ_, _+ℤ_}
-use borrow.Author.Tests.{ltb-true, ltb-false}
-use Rattle.cell.specs.Choose.{choose}
-use Rattle.cell.specs.Current.{charge, discharge}
-use Rattle.cell.specs.Grains.{gained, grainsPerUnit, mostDrain, mostGrains, passes}
-use Rattle.cell.specs.Run.{drained, noRun, unlessPassed}
-use Rattle.cell.specs.declared.current.Current.{Current}
-use Rattle.cell.specs.declared.run.Run.{Run}
-use Rattle.gauge.specs.declared.charge.Charge.{Charge}
-use Rattle.gauge.proofs.AcceptedLaws.{RunSound}
+use lib.IntN.{ℤ, pos, _+ℤ_, _*ℤ_}
+use Rattle.charge.specs.declared.charge.Charge.{Charge}
+use Rattle.grains.specs.Grains.{mostGrains, passes, saturatingSum}
+use Rattle.grains.specs.Run.{drained, noRun, unlessPassed}
+use Rattle.history.specs.Account.{Account}
 use Rattle.history.specs.Claim.{runOf}
-use Rattle.history.specs.History.{Drain, none, drain, History, chargeOf, drainOf, fixedAt, gains, isRun, signed, unlessAbove, withHost, withRun}
-use Rattle.history.proofs.DifferenceLaws.{Difference, of-natural, of-parts, sum, less, scaled}
+use Rattle.history.specs.Drain.{gains, unlessAbove}
+use Rattle.history.specs.Sums.{Sums, chargeOf, fixedAt, grainsAUnit, withCurrent, withLeak}
+use Rattle.history.proofs.DifferenceLaws.{Difference, is-natural, less, of-natural, of-parts, scaled, sum}
 
-pub record Tracks (y : Charge) (x : History) : Type 0 where
-  pub held : Difference (chargeOf x) (y .held) 0
+pub record Tracks (y : Charge) (x : Account) : Type 0 where
+  pub held : chargeOf (x .sums) ≡ pos (y .held)
   pub lmd : y .lmd ≡ x .learned
   pub run : y .run ≡ runOf (x .run)
 
 -- ---- H
 
 -- H is P + 192,000 × a − (192,000 × b + K), where Q is a − b
-pub charge-difference : (x : History) (a b : ℕ) → Difference (x .counted) a b
-    → Difference (chargeOf x) (x .fixed + grainsPerUnit * a) (grainsPerUnit * b + x .leaked)
+pub charge-difference : (s : Sums) (a b : ℕ) → Difference (s .counted) a b
+    → Difference (chargeOf s) (s .fixed + grainsAUnit * a) (grainsAUnit * b + s .leaked)
 unfolding chargeOf
-charge-difference x a b d =
-    let s = sum (pos (x .fixed)) (pos grainsPerUnit *ℤ x .counted) (x .fixed) 0 (grainsPerUnit * a) (grainsPerUnit * b)
-    (of-natural (x .fixed)) (scaled (x .counted) a b d) in
-    let e = less (pos (x .fixed) +ℤ pos grainsPerUnit *ℤ x .counted) (pos (x .leaked)) (x .fixed + grainsPerUnit * a) (0 + grainsPerUnit * b) (x .leaked) 0
-    s (of-natural (x .leaked)) .balance in
+charge-difference s a b d =
+    let p = sum (pos (s .fixed)) (pos grainsAUnit *ℤ s .counted) (s .fixed) 0 (grainsAUnit * a) (grainsAUnit * b)
+    (of-natural (s .fixed)) (scaled (s .counted) a b d) in
+    let e = less (pos (s .fixed) +ℤ pos grainsAUnit *ℤ s .counted) (pos (s .leaked)) (s .fixed + grainsAUnit * a) (0 + grainsAUnit * b)
+    (s .leaked) 0 p (of-natural (s .leaked)) .balance in
     record { balance = omega arith }
 
 -- H fixed at a value is that value
-pub fixed-difference : (value l : ℕ) (r : Drain) (x : History) → Difference (chargeOf (fixedAt value l r x)) value 0
-fixed-difference value l r x =
-    let d = charge-difference (fixedAt value l r x) 0 0 (of-natural 0) .balance in
+pub fixed-is : (value : ℕ) → chargeOf (fixedAt value) ≡ pos value
+fixed-is value =
+    let e : value + grainsAUnit * 0 - (grainsAUnit * 0 + 0) ≡ value = omega arith in
+    is-natural (chargeOf (fixedAt value)) (value + grainsAUnit * 0) (grainsAUnit * 0 + 0) (omega arith)
+    (charge-difference (fixedAt value) 0 0 (of-natural 0))
+    ∙ ap pos e
+
+-- K gains a leak
+pub leaked-difference : (s : Sums) (h l : ℕ) → chargeOf s ≡ pos h → Difference (chargeOf (withLeak l s)) h l
+leaked-difference s h l e =
+    let d = of-parts (s .counted) in
+    let old = rw e at (charge-difference s _ _ d) in
+    let now = old .balance in
+    let new = charge-difference (withLeak l s) _ _ d .balance in
     record { balance = omega arith }
 
--- H does not hang on the run, MODE and AR
-pub run-free : (r : Drain) (x : History) → chargeOf (withRun r x) ≡ chargeOf x
-unfolding chargeOf
-run-free r x = refl
-
-pub host-free : (mode ar : ℕ) (x : History) → chargeOf (withHost mode ar x) ≡ chargeOf x
-unfolding chargeOf
-host-free mode ar x = refl
-
--- the counted current as a difference
-pub signed-difference : (c : Current) → Difference (signed c) (charge c) (discharge c)
-signed-difference c =
-    let e = less (pos (charge c)) (pos (discharge c)) (charge c) 0 (discharge c) 0 (of-natural (charge c)) (of-natural (discharge c)) .balance in
+-- K gains a leak and Q a current, which is a − b
+pub moved-difference : (s : Sums) (h l : ℕ) (z : ℤ) (a b : ℕ) → chargeOf s ≡ pos h → Difference z a b
+    → Difference (chargeOf (withCurrent z (withLeak l s))) (h + grainsAUnit * a) (l + grainsAUnit * b)
+moved-difference s h l z a b e c =
+    let d = of-parts (s .counted) in
+    let old = rw e at (charge-difference s _ _ d) in
+    let now = old .balance in
+    let new = charge-difference (withCurrent z (withLeak l s)) _ _ (sum (s .counted) z _ _ a b d c) .balance in
     record { balance = omega arith }
 
 -- ---- the run
 
-pub run-flag : (r : Drain) → (runOf r) .vdq ≡ isRun r
-run-flag none = refl
-run-flag (drain n) = refl
+-- R, and 0 without a run
+abbrev pub drainIn : Option ℕ → ℕ
+drainIn none = 0
+drainIn (some r) = r
 
-pub run-drain : (r : Drain) → (runOf r) .dcr ≡ drainOf r
-run-drain none = refl
-run-drain (drain n) = refl
+pub drain-is : (r : Option ℕ) → (runOf r) .dcr ≡ drainIn r
+drain-is none = refl
+drain-is (some n) = refl
 
-passed-is : (test : Bool) (n : ℕ) → choose test noRun (record { vdq = true; dcr = n }) ≡ runOf (choose test none (drain n))
+passed-is : (test : Bool) (n : ℕ) → cond test noRun (record { vdq = true; dcr = n }) ≡ runOf (cond test none (some n))
 passed-is true n = refl
 passed-is false n = refl
 
--- the drain gains without the sum's stop
-pub drained-is : (r : Drain) (n : ℕ) → drainOf r + n ≤ mostGrains → drained (runOf r) n ≡ runOf (gains n r)
+-- the drain gains without the stop of the sum
+pub drained-is : (r : Option ℕ) (n : ℕ) → drainIn r + n ≤ mostGrains → drained (runOf r) n ≡ runOf (gains n r)
 unfolding drained gains
 drained-is none n h = refl
-drained-is (drain m) n h =
-    let e : gained m n ≡ m + n = omega arith in
-    ap (λ (k : ℕ). runOf (drain k)) e
+drained-is (some m) n h =
+    let e : saturatingSum m n ≡ m + n = omega arith in
+    ap (λ (k : ℕ). runOf (some k)) e
 
-pub passing-is : (r : Drain) → unlessPassed (runOf r) ≡ runOf (unlessAbove r)
+pub passing-is : (r : Option ℕ) → unlessPassed (runOf r) ≡ runOf (unlessAbove r)
 unfolding unlessPassed unlessAbove
 passing-is none = refl
-passing-is (drain n) = passed-is (passes n) n
+passing-is (some n) = passed-is (passes n) n
 
-pub gains-again : (r : Drain) (m n : ℕ) → gains n (gains m r) ≡ gains (m + n) r
+pub gains-again : (r : Option ℕ) (m n : ℕ) → gains n (gains m r) ≡ gains (m + n) r
 unfolding gains
 gains-again none m n = refl
-gains-again (drain k) m n =
+gains-again (some k) m n =
     let e : k + m + n ≡ k + (m + n) = omega arith in
-    ap drain e
+    ap some e
 
-pub gained-drain : (r : Drain) (n : ℕ) → drainOf (gains n r) ≤ drainOf r + n
+pub gained-drain : (r : Option ℕ) (n : ℕ) → drainIn (gains n r) ≤ drainIn r + n
 unfolding gains
 gained-drain none n = omega arith
-gained-drain (drain k) n = omega arith
-
-pub kept-sound : (r : Drain) → RunSound (runOf (unlessAbove r))
-unfolding unlessAbove
-kept-sound none = record { within = omega arith; none = λ e. refl }
-kept-sound (drain n) = go (passes n) refl
-  where
-    go : (test : Bool) → passes n ≡ test → RunSound (runOf (choose test none (drain n)))
-    go true e = record { within = omega arith; none = λ e. refl }
-    go false e = record { within = ltb-false mostDrain n e; none = λ p. cc }
-
-pub none-sound : RunSound noRun
-none-sound = record { within = omega arith; none = λ e. refl }
-
-pub started-sound : RunSound (record { vdq = true; dcr = 0 })
-started-sound = record { within = omega arith; none = λ e. refl }
+gained-drain (some k) n = omega arith

@@ -1,3 +1,9 @@
+pub mod Account
+pub mod After
 pub mod Call
 pub mod Claim
+pub mod Drain
 pub mod History
+pub mod Refused
+pub mod Sums
+pub mod Tests

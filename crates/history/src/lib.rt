@@ -1,7 +1,17 @@
-// Demand 3: every list of calls from a freshly opened gauge leaves what the history says. The function does nothing; its
-// contract is the claim.
-ghost use Rattle.history.specs.Claim.{Demand3};
+// The claims over every list of calls. Each function does nothing; its contract is the claim.
+ghost use Rattle.history.specs.Claim.{Demand3, FromAnyGauge, StaysAccepted};
 
+// Demand 3: every list of calls from a freshly opened gauge leaves what the history says.
 pub fn demand_3()
     ensures { λ _. ⌜ Demand3 ⌝ }
+{}
+
+// The same from any accepted gauge.
+pub fn from_any_gauge()
+    ensures { λ _. ⌜ FromAnyGauge ⌝ }
+{}
+
+// Every call on an accepted gauge leaves an accepted one.
+pub fn stays_accepted()
+    ensures { λ _. ⌜ StaysAccepted ⌝ }
 {}

@@ -1,36 +1,92 @@
--- Laws of the copy: registers stored one by one, registers from the middle of the whole map, and what a copy leaves. Assumes nothing.
-use mathlib.Core.List.{List, _∷_, _++_, append-nil}
+-- Laws of the copy: the bytes of one pair stored, registers from the middle of the whole map, and what a copy leaves. Assumes nothing.
+use mathlib.Core.List.{List, [], _∷_, _++_, append-nil}
 use mathlib.Core.Path.{_≡_, refl, sym, ap, _∙_}
-use Prim.Native.Nat.{ℕ, zero, suc, _+_, _-_, _≤_}
+use Prim.Native.Nat.{ℕ, zero, suc, _+_, _-_, _*_, _/_, _%_, _≤_, _<_}
 use native.Mathlib.Nat.{le-of-suc-le-suc, not-suc-le-zero}
 use native.Mathlib.Omega.{arith}
-use lib.ListN.{drop, length, take}
+use lib.ListN.{drop, length, length-set, set, take}
 use lib.Seq.{drop-length, sets, sets-eq, take-length}
 use Rattle.gauge.specs.declared.state.Gauge.{Gauge}
-use Rattle.registers.specs.Map.{register, registersFrom}
+use Rattle.registers.specs.Map.{pairAt, register, registerCount, registersFrom}
+use Rattle.registers.specs.Reading.{pairBytes}
+use Rattle.registers.specs.Whole.{wholeMap}
+use Rattle.registers.proofs.MapLaws.{high-shown, low-shown}
 
--- ---- registers stored one by one
+-- ---- the bytes of one pair of addresses: one of them, or both
+
+-- stores of as many values as a list is long, from its start on, leave the values alone
+sets-all : (values s : List ℕ) → length s ≡ length values → sets s 0 values ≡ values
+sets-all values s e =
+    let whole : 0 + length values ≡ length s = omega arith in
+    sets-eq values s 0 (omega arith)
+    ∙ ap (λ (k : ℕ). values ++ drop k s) whole
+    ∙ ap (λ (l : List ℕ). values ++ l) (drop-length s)
+    ∙ append-nil values
+
+module _ (pair from : ℕ) (s : List ℕ) (h : pair < 65_536) (some : 1 ≤ length s) (fits : from + length s ≤ 2) where
+  pub high-stored : from ≡ 1 → set s 0 (pair / 256) ≡ pairBytes pair from (length s)
+  high-stored e =
+      let one : length s ≡ 1 = omega arith in
+      let high : pair / 256 ≡ pair / 256 % 256 = omega arith in
+      ap (set s 0) high
+      ∙ sets-all (pair / 256 % 256 ∷ []) s one
+      ∙ sym (ap (pairBytes pair from) one ∙ ap (λ (k : ℕ). pairBytes pair k 1) e)
+
+  pub low-stored : (from ≡ 1 → ⊥) → length (set s 0 (pair % 256)) ≡ 1 → set s 0 (pair % 256) ≡ pairBytes pair from (length s)
+  low-stored ne l =
+      let same = length-set s 0 (pair % 256) in
+      let one : length s ≡ 1 = omega arith in
+      let none : from ≡ 0 = omega arith in
+      sets-all (pair % 256 ∷ []) s one ∙ sym (ap (pairBytes pair from) one ∙ ap (λ (k : ℕ). pairBytes pair k 1) none)
+
+  pub two-long : (length (set s 0 (pair % 256)) ≡ 1 → ⊥) → 1 < length (set s 0 (pair % 256))
+  two-long ne = let same = length-set s 0 (pair % 256) in omega arith
+
+  pub both-stored : (from ≡ 1 → ⊥) → (length (set s 0 (pair % 256)) ≡ 1 → ⊥)
+      → set (set s 0 (pair % 256)) 1 (pair / 256) ≡ pairBytes pair from (length s)
+  both-stored ne l =
+      let same = length-set s 0 (pair % 256) in
+      let two : length s ≡ 2 = omega arith in
+      let none : from ≡ 0 = omega arith in
+      let high : pair / 256 ≡ pair / 256 % 256 = omega arith in
+      ap (set (set s 0 (pair % 256)) 1) high
+      ∙ sets-all (pair % 256 ∷ (pair / 256 % 256 ∷ [])) s two
+      ∙ sym (ap (pairBytes pair from) two ∙ ap (λ (k : ℕ). pairBytes pair k 2) none)
+
+-- they are the registers at its addresses
+module _ (g : Gauge) (a pair : ℕ) (e : pair ≡ pairAt g (a / 2)) where
+  registers-are : (from n : ℕ) → a % 2 ≡ from → 1 ≤ n → from + n ≤ 2 → pairBytes pair from n ≡ registersFrom g a n
+  unfolding registersFrom
+  registers-are zero (suc zero) r some fits =
+      let even : 2 * (a / 2) ≡ a = omega arith in
+      ap (λ (v : ℕ). v ∷ []) (low-shown g (a / 2) a pair e even)
+  registers-are zero (suc (suc zero)) r some fits =
+      let even : 2 * (a / 2) ≡ a = omega arith in
+      let odd : 2 * (a / 2) + 1 ≡ suc a = omega arith in
+      ap (λ (v : ℕ). v ∷ (pair / 256 % 256 ∷ [])) (low-shown g (a / 2) a pair e even)
+      ∙ ap (λ (v : ℕ). register g a ∷ (v ∷ [])) (high-shown g (a / 2) (suc a) pair e odd)
+  registers-are (suc zero) (suc zero) r some fits =
+      let odd : 2 * (a / 2) + 1 ≡ a = omega arith in
+      ap (λ (v : ℕ). v ∷ []) (high-shown g (a / 2) a pair e odd)
+  registers-are (suc (suc from)) (suc n) r some fits = absurd (omega arith)
+  registers-are (suc zero) (suc (suc n)) r some fits = absurd (omega arith)
+  registers-are zero (suc (suc (suc n))) r some fits = absurd (omega arith)
+  registers-are zero zero r some fits = absurd (omega arith)
+  registers-are (suc zero) zero r some fits = absurd (omega arith)
+  registers-are (suc (suc from)) zero r some fits = absurd (omega arith)
+
+  pub pair-copied : (n : ℕ) → 1 ≤ n → a % 2 + n ≤ 2 → pairBytes pair (a % 2) n ≡ registersFrom g a n
+  pair-copied n some fits = registers-are (a % 2) n refl some fits
+
+pub pair-inside : (a n : ℕ) → 1 ≤ n → a + n ≤ registerCount → a / 2 < 64
+pair-inside a n some inside = omega arith
+
+-- ---- registers from the middle of others
 
 length-registers-from : (g : Gauge) (a n : ℕ) → length (registersFrom g a n) ≡ n
 unfolding registersFrom
 length-registers-from g a zero = refl
 length-registers-from g a (suc n) = ap suc (length-registers-from g (suc a) n)
-
--- stores of as many registers as a list is long, from its start on, leave the registers alone
-sets-all : (g : Gauge) (a : ℕ) (s : List ℕ) → sets s 0 (registersFrom g a (length s)) ≡ registersFrom g a (length s)
-sets-all g a s =
-    let e = length-registers-from g a (length s) in
-    let whole : 0 + length (registersFrom g a (length s)) ≡ length s = omega arith in
-    sets-eq (registersFrom g a (length s)) s 0 (omega arith)
-    ∙ ap (λ (k : ℕ). registersFrom g a (length s) ++ drop k s) whole
-    ∙ ap (λ (l : List ℕ). registersFrom g a (length s) ++ l) (drop-length s)
-    ∙ append-nil (registersFrom g a (length s))
-
--- the same, where the length is known by an equation
-pub sets-counted : (g : Gauge) (a n : ℕ) (s : List ℕ) → length s ≡ n → sets s 0 (registersFrom g a n) ≡ registersFrom g a (length s)
-sets-counted g a n s e = ap (λ (k : ℕ). sets s 0 (registersFrom g a k)) (sym e) ∙ sets-all g a s
-
--- ---- registers from the middle of others
 
 take-registers : (g : Gauge) (a n m : ℕ) → n ≤ m → take n (registersFrom g a m) ≡ registersFrom g a n
 unfolding registersFrom
@@ -51,13 +107,13 @@ drop-registers g a (suc n) m =
     ∙ drop-registers g (suc a) n m
     ∙ ap (λ (k : ℕ). registersFrom g k m) next
 
-middle-registers : (g : Gauge) (a n : ℕ) → a + n ≤ 128 → take n (drop a (registersFrom g 0 128)) ≡ registersFrom g a n
+middle-registers : (g : Gauge) (a n : ℕ) → a + n ≤ registerCount → take n (drop a (wholeMap g)) ≡ registersFrom g a n
 middle-registers g a n h =
-    let left : 128 ≡ a + (128 - a) = omega arith in
+    let left : registerCount ≡ a + (registerCount - a) = omega arith in
     let from : 0 + a ≡ a = omega arith in
     ap (λ (k : ℕ). take n (drop a (registersFrom g 0 k))) left
-    ∙ ap (take n) (drop-registers g 0 a (128 - a))
-    ∙ take-registers g (0 + a) n (128 - a) (omega arith)
+    ∙ ap (take n) (drop-registers g 0 a (registerCount - a))
+    ∙ take-registers g (0 + a) n (registerCount - a) (omega arith)
     ∙ ap (λ (k : ℕ). registersFrom g k n) from
 
 -- ---- what a copy leaves in a part of the source's length
@@ -72,7 +128,7 @@ copied-all source part after l e =
     ∙ append-nil source
 
 -- from the middle of the whole map
-pub copied-middle : (g : Gauge) (a : ℕ) (whole part after : List ℕ) → whole ≡ registersFrom g 0 128 → a + length part ≤ 128
+pub copied-middle : (g : Gauge) (a : ℕ) (whole part after : List ℕ) → whole ≡ wholeMap g → a + length part ≤ registerCount
     → after ≡ take (length (take (a + length part - a) (drop a whole))) (take (a + length part - a) (drop a whole))
     ++ drop (length (take (a + length part - a) (drop a whole))) part
     → after ≡ registersFrom g a (length part)

@@ -1,4 +1,6 @@
 pub mod CopyLaws
 pub mod MapLaws
-pub mod ReadLaws
+pub mod ReadingLaws
+pub mod TimesLaws
+pub mod ValuesLaws
 pub mod WholeLaws

@@ -1,47 +1,60 @@
 -- Laws of the map: what a row shows at its pair of addresses, which pairs no row covers, that every register is a byte, and the bytes of
 -- a pair. At an address that is a numeral the map computes. Assumes nothing.
-use mathlib.Core.Bool.{Bool, true, false, _&&_, _||_}
+use mathlib.Core.Bool.{Bool, true, false, _&&_, _||_, cond}
 use mathlib.Core.List.{List, [], _∷_}
 use mathlib.Core.Path.{_≡_, refl, sym, ap, _∙_}
 use Prim.Native.Nat.{ℕ, zero, suc, _+_, _-_, _*_, _/_, _%_, _≤_, _<_}
 use native.Mathlib.Omega.{arith}
 use lib.Dec.{T, eqb, leb, ltb, eqb→eq}
-use lib.ListN.{getD}
 use borrow.Author.Tests.{le-ltb, ne-eqb}
-use Rattle.cell.specs.Choose.{choose}
-use Rattle.cell.proofs.EveryLaws.{at-each-below, everyBelow}
 use Rattle.gauge.specs.declared.state.Gauge.{Gauge}
-use Rattle.registers.specs.Map.{Row, byteAt, rows, lookUp, register, pairAt}
+use Rattle.numbers.specs.Little.{byteAt}
+use Rattle.numbers.proofs.EveryLaws.{at-each-below}
+use Rattle.registers.specs.Map.{Row, configurationPair, lookUp, pairAt, register, rows}
 
 -- ---- a pair of addresses, found at a numeral
 
--- a value of two bytes, low byte first
-pub shows-pair : (g : Gauge) (pair n value : ℕ) → pair ≡ n → value < 65_536
-    → pairAt g n ≡ byteAt value 0 + 256 * byteAt value 1 → value ≡ pairAt g pair
-shows-pair g pair n value e h at =
-    let whole : value ≡ byteAt value 0 + 256 * byteAt value 1 = omega arith in
-    whole ∙ sym at ∙ sym (ap (λ (k : ℕ). pairAt g k) e)
+pub bytes-shown : {v w low high : ℕ} → v ≡ low → w ≡ high → v < 256 → w < 256 → v + 256 * w ≡ byteAt low 0 + 256 * byteAt high 0
+bytes-shown {v} {w} {low} p q h k =
+    let whole : v + 256 * w ≡ byteAt v 0 + 256 * byteAt w 0 = omega arith in
+    whole ∙ ap (λ (k : ℕ). byteAt k 0 + 256 * byteAt w 0) p ∙ ap (λ (k : ℕ). byteAt low 0 + 256 * byteAt k 0) q
 
--- two values of one byte
-pub shows-bytes : (g : Gauge) (pair n low high : ℕ) → pair ≡ n → low < 256 → high < 256
-    → pairAt g n ≡ byteAt low 0 + 256 * byteAt high 0 → low + 256 * high ≡ pairAt g pair
-shows-bytes g pair n low high e h k at =
-    let whole : low + 256 * high ≡ byteAt low 0 + 256 * byteAt high 0 = omega arith in
-    whole ∙ sym at ∙ sym (ap (λ (k : ℕ). pairAt g k) e)
+module _ (g : Gauge) {pair n : ℕ} (e : pair ≡ n) where
+  -- a value of two bytes, low byte first
+  pub shows-pair : {v w : ℕ} → v ≡ w → v < 65_536 → pairAt g n ≡ byteAt w 0 + 256 * byteAt w 1 → v ≡ pairAt g pair
+  shows-pair {v} p h at =
+      let whole : v ≡ byteAt v 0 + 256 * byteAt v 1 = omega arith in
+      whole ∙ ap (λ (k : ℕ). byteAt k 0 + 256 * byteAt k 1) p ∙ sym at ∙ sym (ap (λ (k : ℕ). pairAt g k) e)
 
--- the configuration's bytes stand from 0x76 = 2 * 59 on
-pub configuration-shown : (g : Gauge) (k : ℕ) → k < 5
-    → pairAt g (59 + k) ≡ byteAt (getD (g .configuration) (2 * k) 0) 0 + 256 * byteAt (getD (g .configuration) (2 * k + 1) 0) 0
+  -- two values of one byte
+  pub shows-bytes : {v w low high : ℕ} → v ≡ low → w ≡ high → v < 256 → w < 256
+      → pairAt g n ≡ byteAt low 0 + 256 * byteAt high 0 → v + 256 * w ≡ pairAt g pair
+  shows-bytes p q h k at = bytes-shown p q h k ∙ sym at ∙ sym (ap (λ (k : ℕ). pairAt g k) e)
+
+-- the last pair of a group of five
+pub last-of-five : (n : ℕ) {pair : ℕ} → n ≤ pair → pair < n + 5 → (pair ≡ n → ⊥) → (pair ≡ n + 1 → ⊥) → (pair ≡ n + 2 → ⊥)
+    → (pair ≡ n + 3 → ⊥) → pair ≡ n + 4
+last-of-five n h k a b c d = omega arith
+
+-- ---- the configuration's bytes stand from 0x76 = 2 * 59 on
+
+configuration-at : (g : Gauge) (k : ℕ) → k < 5 → pairAt g (59 + k) ≡ configurationPair (g .configuration) k
 unfolding register lookUp rows
-configuration-shown g zero h = refl
-configuration-shown g (suc zero) h = refl
-configuration-shown g (suc (suc zero)) h = refl
-configuration-shown g (suc (suc (suc zero))) h = refl
-configuration-shown g (suc (suc (suc (suc zero)))) h = refl
-configuration-shown g (suc (suc (suc (suc (suc k))))) h = absurd (none h)
+configuration-at g zero h = refl
+configuration-at g (suc zero) h = refl
+configuration-at g (suc (suc zero)) h = refl
+configuration-at g (suc (suc (suc zero))) h = refl
+configuration-at g (suc (suc (suc (suc zero)))) h = refl
+configuration-at g (suc (suc (suc (suc (suc k))))) h = absurd (none h)
   where
     none : suc (suc (suc (suc (suc k)))) < 5 → ⊥
     none p = omega arith
+
+pub configuration-shown : (g : Gauge) {pair r : ℕ} → 59 ≤ pair → pair < 64 → r ≡ configurationPair (g .configuration) (pair - 59)
+    → r ≡ pairAt g pair
+configuration-shown g {pair} from to p =
+    let e : 59 + (pair - 59) ≡ pair = omega arith in
+    p ∙ sym (configuration-at g (pair - 59) (omega arith)) ∙ ap (λ (k : ℕ). pairAt g k) e
 
 -- ---- the pairs that no row covers, by one test that is computed
 
@@ -65,11 +78,11 @@ unfolding lookUp
 look-up-below a [] = omega arith
 look-up-below a (r ∷ rs) = go (leb (r .address) a && ltb a (r .address + r .width)) (look-up-below a rs)
   where
-    go : (test : Bool) → lookUp a rs < 256 → choose test (byteAt (r .value) (a - r .address)) (lookUp a rs) < 256
+    go : (test : Bool) → lookUp a rs < 256 → cond test (byteAt (r .value) (a - r .address)) (lookUp a rs) < 256
     go true h = omega arith
     go false h = h
 
-pub register-below : (g : Gauge) (a : ℕ) → register g a < 256
+register-below : (g : Gauge) (a : ℕ) → register g a < 256
 unfolding register
 register-below g a = look-up-below a (rows g)
 
@@ -81,9 +94,9 @@ low-shown g n a pair e at =
     let shown : pair % 256 ≡ register g (2 * n) = omega arith in
     shown ∙ ap (register g) at
 
-pub high-shown : (g : Gauge) (n a pair : ℕ) → pair ≡ pairAt g n → 2 * n + 1 ≡ a → pair / 256 ≡ register g a
+pub high-shown : (g : Gauge) (n a pair : ℕ) → pair ≡ pairAt g n → 2 * n + 1 ≡ a → pair / 256 % 256 ≡ register g a
 high-shown g n a pair e at =
     let low = register-below g (2 * n) in
     let high = register-below g (2 * n + 1) in
-    let shown : pair / 256 ≡ register g (2 * n + 1) = omega arith in
+    let shown : pair / 256 % 256 ≡ register g (2 * n + 1) = omega arith in
     shown ∙ ap (register g) at

@@ -1,6 +1,6 @@
-// The registers: what each shows, the map, and a read into the host's reply. Stands on the crates cell and gauge.
+// The registers: what each shows, the map, the whole map at once, and a read into the host's reply.
 mod map;
-pub mod read;
+pub mod reading;
 mod times;
-pub mod values;
-mod whole;
+mod values;
+pub mod whole;

@@ -1,7 +1,7 @@
 // The map of "Registers", by pairs of addresses: of all that is shown, only the pair asked for is computed.
 ghost use mathlib.Core.Bool.{true};
 ghost use mathlib.Core.Path.{_≡_};
-ghost use Prim.Native.Nat.{_+_, _*_, _≤_, _<_};
+ghost use Prim.Native.Nat.{_-_, _≤_, _<_};
 ghost use lib.ListN.{getD};
 ghost use Rattle.gauge.specs.Accepted.{accepted};
 ghost use Rattle.registers.specs.Map as Spec;
@@ -11,19 +11,13 @@ use crate::times::tte;
 use crate::times::ttf;
 use crate::values::cac;
 use crate::values::fcac;
-use crate::values::flags;
 use crate::values::nac;
 use crate::values::rsoc;
-use cell::configuration::Configuration;
-use cell::configuration::e1;
+use configuration::configuration::Configuration;
+use configuration::configuration::e1;
+use flags::byte::flags_byte;
 use gauge::state::Gauge;
-
-// "pairs stand low byte first".
-fn pair_of(low: u8, high: u8) -> u16
-    ensures { λ r. ⌜ r ≡ low + 256 * high ⌝ }
-{
-    low as u16 + 256 * high as u16
-}
+use numbers::little::pair_of;
 
 // 0x00 to 0x09: CTRL, which "always reads 0", MODE, AR, ARTTE, TEMP and VOLT.
 fn host_pair(gauge: Gauge, pair: u32) -> u16
@@ -40,9 +34,9 @@ fn host_pair(gauge: Gauge, pair: u32) -> u16
         return artte(gauge);
     }
     if pair == 3 {
-        return gauge.shown.temperature;
+        return gauge.sample.temperature;
     }
-    gauge.shown.voltage
+    gauge.sample.voltage
 }
 
 // 0x0A to 0x13: FLAGS, RSOC, NAC, LMD, CAC and FCAC.
@@ -51,7 +45,12 @@ fn capacity_pair(gauge: Gauge, pair: u32) -> u16
     ensures { λ r. ⌜ r ≡ Spec.pairAt gauge pair ⌝ }
 {
     if pair == 5 {
-        return pair_of(flags(gauge), rsoc(gauge));
+        let flags = flags_byte(
+            gauge.sample.current.charging,
+            gauge.charge.run.vdq,
+            gauge.flags,
+        );
+        return pair_of(flags, rsoc(gauge));
     }
     if pair == 6 {
         return nac(gauge);
@@ -71,7 +70,7 @@ fn current_pair(gauge: Gauge, pair: u32) -> u16
     ensures { λ r. ⌜ r ≡ Spec.pairAt gauge pair ⌝ }
 {
     if pair == 10 {
-        return gauge.shown.current.magnitude;
+        return gauge.sample.current.magnitude;
     }
     if pair == 11 {
         return tte(gauge);
@@ -80,7 +79,7 @@ fn current_pair(gauge: Gauge, pair: u32) -> u16
         return ttf(gauge);
     }
     if pair == 13 {
-        return gauge.shown.standby;
+        return gauge.standby;
     }
     stte(gauge)
 }
@@ -93,11 +92,10 @@ fn configuration_byte(configuration: Configuration, at: usize) -> u8
 }
 
 // 0x76 to 0x7F.
-fn configuration_pair(gauge: Gauge, pair: u32) -> u16
+fn configuration_pair(configuration: Configuration, pair: u32) -> u16
     requires { ⌜ (59 ≤ pair) × (pair < 64) ⌝ }
-    ensures { λ r. ⌜ r ≡ Spec.pairAt gauge pair ⌝ }
+    ensures { λ r. ⌜ r ≡ Spec.configurationPair configuration (pair - 59) ⌝ }
 {
-    let configuration = gauge.configuration;
     let at = 2 * (pair - 59) as usize;
     pair_of(
         configuration_byte(configuration, at),
@@ -126,5 +124,6 @@ pub(crate) fn pair_at(gauge: Gauge, pair: u32) -> u16
     if pair < 59 {
         return 0;
     }
-    configuration_pair(gauge, pair)
+    let configuration = gauge.configuration;
+    configuration_pair(configuration, pair)
 }

@@ -1,37 +1,35 @@
-// The time registers of "Registers": minutes, 65,535 where the divisor is 0 or the current has the wrong sign.
+// The times that are shown, by "Registers": minutes, 65,535 where the divisor is 0 or the current has the wrong sign.
 ghost use mathlib.Core.Bool.{true};
 ghost use mathlib.Core.Path.{_≡_};
 ghost use Rattle.gauge.specs.Accepted.{accepted};
-ghost use Rattle.registers.specs.Values as Spec;
+ghost use Rattle.registers.specs.Times as Spec;
 use crate::values::cac;
 use crate::values::nac;
-use cell::compensation::compensated;
-use cell::compensation::dcmp;
-use cell::compensation::minutes;
+use compensation::compensation::compensated;
+use compensation::compensation::dcmp;
+use compensation::compensation::minutes;
 use gauge::state::Gauge;
 
 pub(crate) fn tte(gauge: Gauge) -> u16
     requires { ⌜ accepted gauge ≡ true ⌝ }
     ensures { λ r. ⌜ r ≡ Spec.tte gauge ⌝ }
 {
-    let current = gauge.shown.current;
-    minutes(60 * cac(gauge) as u32, current.discharge())
+    minutes(60 * cac(gauge) as u32, gauge.sample.current.discharge())
 }
 
 pub(crate) fn ttf(gauge: Gauge) -> u16
     requires { ⌜ accepted gauge ≡ true ⌝ }
     ensures { λ r. ⌜ r ≡ Spec.ttf gauge ⌝ }
 {
-    let current = gauge.shown.current;
     let missing = gauge.charge.lmd - nac(gauge);
-    minutes(90 * missing as u32, current.charge())
+    minutes(90 * missing as u32, gauge.sample.current.charge())
 }
 
 pub(crate) fn stte(gauge: Gauge) -> u16
     requires { ⌜ accepted gauge ≡ true ⌝ }
     ensures { λ r. ⌜ r ≡ Spec.stte gauge ⌝ }
 {
-    minutes(60 * nac(gauge) as u32, gauge.shown.standby)
+    minutes(60 * nac(gauge) as u32, gauge.standby)
 }
 
 pub(crate) fn artte(gauge: Gauge) -> u16
@@ -39,7 +37,9 @@ pub(crate) fn artte(gauge: Gauge) -> u16
     ensures { λ r. ⌜ r ≡ Spec.artte gauge ⌝ }
 {
     let configuration = gauge.configuration;
-    let ar = gauge.host.ar;
-    let reduction = dcmp(configuration, ar, gauge.shown.temperature);
-    minutes(60 * compensated(nac(gauge), reduction) as u32, ar)
+    let reduction = dcmp(configuration, gauge.host.ar, gauge.sample.temperature);
+    minutes(
+        60 * compensated(nac(gauge), reduction) as u32,
+        gauge.host.ar,
+    )
 }

@@ -1,4 +1,4 @@
--- The claim is `every-drive` of the laws. Assumes nothing.
+-- The claim is a law. Assumes nothing.
 use Rattle.drive.proofs.DriveLaws.{every-drive}
 use Rattle.drive.proofs.every_drive.Statement.{statement}
 use Rattle.drive.proofs.every_drive.Tie as tie

@@ -1,50 +1,69 @@
--- The lower crate's rows are its own claim; the others hold by computation. Assumes nothing.
+-- Each row holds by computation. Assumes nothing.
 use mathlib.Core.Path.{refl}
-use Rattle.cell.specs.Compensation.{dcmp, dt, minutes, offsetTerm, rateTerm}
-use Rattle.cell.specs.Configuration.{dcompTaken}
-use Rattle.cell.specs.Current.{charge, counted, discharge}
-use Rattle.cell.specs.Leak.{band, leak, leakRate, reached, weight}
-use Rattle.cell.specs.Learning.{learned}
-use Rattle.cell.specs.Run.{drained, unlessPassed}
-use Rattle.cell.specs.Sample.{between, currentInRange, valueBetween}
-use Rattle.cell.proofs.ExampleLaws.{examples}
-use Rattle.gauge.specs.Accepted.{accepted, chargeAccepted, currentAccepted, runAccepted, shownAccepted, zeroOrBetween}
+use Rattle.charge.specs.Charge.{chargeAccepted, emptied, filled, heldMoved, leaked, moved, openedCharge, runMoved, taught, withoutRun}
+use Rattle.command.specs.Command.{decide, decideA9, highestCommandBit}
+use Rattle.compensation.specs.Compensation.{dcmp, dt, minutes, offsetTerm, rateTerm}
+use Rattle.configuration.specs.Configuration.{dcompTaken, openedMode}
+use Rattle.flags.specs.Byte.{flagsByte}
+use Rattle.flags.specs.Flags.{atEdv1, atEdvf, atTaught, clearedIf}
+use Rattle.gauge.specs.Accepted.{accepted}
 use Rattle.gauge.specs.Calls.{windowAnswer}
-use Rattle.gauge.specs.Charge.{ended, filled, filledIf, leaked, moved, runMoved}
-use Rattle.gauge.specs.Command.{decide, decideA9, highestCommandBit}
-use Rattle.gauge.specs.Ending.{endingOf, mayTeach}
-use Rattle.gauge.specs.Full.{isFull}
-use Rattle.gauge.specs.Host.{fullIf}
-use Rattle.gauge.specs.Opening.{openAnswer, openRefusal, opened, openedCharge, openedHost, openedShown}
-use Rattle.gauge.specs.Shown as Shown
-use Rattle.gauge.specs.Shown.{averaged, averagedStandby, flags, ciCleared, measured, chargingCleared}
-use Rattle.gauge.specs.Window.{endingAt, fullAt, step1, step2, step3, step4, step5, window}
-use Rattle.registers.specs.Values as Values
-use Rattle.registers.specs.Values.{cac, flagsByte, reduction, rsoc, tte}
+use Rattle.gauge.specs.Opening.{openAnswer, openRefusal, opened}
+use Rattle.gauge.specs.Window.{reachedIn, summed, window}
+use Rattle.grains.specs.Leak.{band, leak, leakRate, reached, weight}
+use Rattle.grains.specs.Learning.{learned}
+use Rattle.grains.specs.Run.{drained, runAccepted, unlessPassed}
+use Rattle.host.specs.Host.{fullIf, openedHost}
+use Rattle.reached.specs.Ending.{endingOf, mayTeach}
+use Rattle.reached.specs.Full.{isFull}
+use Rattle.reached.specs.Reached.{chargeEnded, chargeReached, filledIf, flagsEnded, reachedBy}
+use Rattle.registers.specs.Times.{tte}
+use Rattle.registers.specs.Values.{cac, reduction, rsoc}
+use Rattle.sample.specs.Current.{charge, counted, discharge}
+use Rattle.sample.specs.Limits.{zeroOrWithin}
+use Rattle.sample.specs.Range.{between, currentInRange, valueBetween}
+use Rattle.sample.specs.Sample.{currentAccepted, noSample, sampleAccepted}
+use Rattle.sample.specs.Standby.{averaged, standbyAccepted}
 use Rattle.examples.proofs.proved_examples.Statement.{statement}
 use Rattle.examples.proofs.proved_examples.Tie as tie
 
 returns : tie.Need-returns
-unfolding dcmp dt minutes offsetTerm rateTerm dcompTaken charge counted discharge band leak leakRate reached weight learned drained unlessPassed between currentInRange valueBetween accepted chargeAccepted currentAccepted runAccepted shownAccepted zeroOrBetween windowAnswer ended filled filledIf leaked moved runMoved decide decideA9 highestCommandBit endingOf mayTeach isFull fullIf openAnswer openRefusal opened openedCharge openedHost openedShown Shown.ended averaged averagedStandby flags ciCleared measured chargingCleared endingAt fullAt step1 step2 step3 step4 step5 window Values.flags flagsByte cac reduction rsoc tte
+unfolding chargeAccepted emptied filled heldMoved leaked moved openedCharge runMoved taught withoutRun decide decideA9 highestCommandBit dcmp dt minutes offsetTerm rateTerm dcompTaken openedMode flagsByte atEdv1 atEdvf atTaught clearedIf accepted windowAnswer openAnswer openRefusal opened reachedIn summed window band leak leakRate reached weight learned drained runAccepted unlessPassed fullIf openedHost endingOf mayTeach isFull chargeEnded chargeReached filledIf flagsEnded reachedBy tte cac reduction rsoc charge counted discharge zeroOrWithin between currentInRange valueBetween currentAccepted noSample sampleAccepted averaged standbyAccepted
 returns c =
     record {
-      cell = examples;
+      bench-lmd = refl;
+      bench-edvf = refl;
+      bench-e1 = refl;
+      bench-s0 = refl;
+      bench-dmf = refl;
+      current-2 = refl;
+      current-3 = refl;
+      weight-1171 = refl;
+      weight-1172 = refl;
       held = refl;
+      dcmp-127 = refl;
       cac-892 = refl;
       tte-17 = refl;
-      nac-1 = refl;
-      flags-1 = refl;
-      nac-2 = refl;
-      rsoc-2 = refl;
-      flags-2 = refl;
-      nac-3 = refl;
-      rsoc-3 = refl;
-      flags-3 = refl;
+      drain-900 = refl;
+      drain-100 = refl;
+      drain-61440 = refl;
       iav-20 = refl;
       iav-21 = refl;
       v-3000 = refl;
       v-3001 = refl;
       mode-35 = refl;
+      nac-1 = refl;
+      lmd-1 = refl;
+      rsoc-1 = refl;
+      flags-1 = refl;
+      nac-2 = refl;
+      lmd-2 = refl;
+      rsoc-2 = refl;
+      flags-2 = refl;
+      nac-3 = refl;
+      lmd-3 = refl;
+      rsoc-3 = refl;
+      flags-3 = refl;
     }
 
 pub proved-examples-spec : {M : Type 1} → statement M

@@ -1,29 +1,28 @@
--- Each way answers what its tests pick. Assumes nothing.
+-- Each way answers what its tests pick; ten bytes read one by one are the bytes handed in. Assumes nothing.
+use mathlib.Core.Path.{_≡_, ap, _∙_, sym}
+use mathlib.Core.List.{List}
 use Prim.Native.Nat.{ℕ}
 use denote.Ref.{now}
-use mathlib.Core.Path.{_≡_, _∙_, sym, ap}
-use mathlib.Core.List.{List}
-use native.Mathlib.Omega.{arith}
-use lib.ListN.{length, getD}
+use lib.Dec.{eqb}
 use borrow.Author.Tests.{eq-eqb, ne-eqb}
+use Rattle.configuration.specs.Configuration.{ilmd}
+use Rattle.numbers.proofs.LittleLaws.{whole}
+use Rattle.gauge.specs.Opening.{opened}
+use Rattle.gauge.proofs.OpeningLaws.{open-length, open-capacity, open-done}
 use borrow.Author.Needs.{needs}
-use Rattle.gauge.specs.Opening.{openRefusal, openAnswer}
-use Rattle.cell.specs.Configuration.{ilmd}
 use Rattle.gauge.proofs.opening.open.Statement.{statement}
 use Rattle.gauge.proofs.opening.open.Tie as tie
-
-byte-is : (c : tie.After-ilmd) → c .ilmd .result ≡ ilmd (now (c .before .before .before .before .args .bytes))
-byte-is c = c .ilmd .ensures ∙ ap ilmd (c .before .ten-bytes .ensures)
 
 opened-requires : tie.Need-opened-requires
 opened-requires c κs = search needs
 
 returns : tie.Need-returns
-unfolding openRefusal openAnswer
-returns c = simp (ne-eqb _ _ (c .before .if1 .taken), c .opened .ensures)
+returns c =
+    let p = c .before in
+    open-length (now (p .before .before .args .bytes)) (ne-eqb _ _ (p .if1 .taken)) (c .opened .ensures)
 
-ten-bytes-requires : tie.Need-ten-bytes-requires
-ten-bytes-requires c κs = search needs
+ten-at-requires : tie.Need-ten-at-requires
+ten-at-requires c κs = search needs
 
 ilmd-requires : tie.Need-ilmd-requires
 ilmd-requires c κs = search needs
@@ -32,20 +31,25 @@ opened-requires-2 : tie.Need-opened-requires-2
 opened-requires-2 c κs = search needs
 
 returns-2 : tie.Need-returns-2
-unfolding openRefusal openAnswer
 returns-2 c =
-    let h = sym (byte-is (c .before .before)) ∙ c .before .if2 .taken in
-    simp (eq-eqb _ _ (c .before .before .before .before .if1 .left), eq-eqb _ _ h, c .opened2 .ensures)
+    let p = c .before .before in
+    let q = p .before .before in
+    let b = now (q .before .before .args .bytes) in
+    let w = p .before .ten-at .ensures ∙ whole 10 b (q .if1 .left) in
+    let z = eq-eqb _ _ (sym (ap ilmd w) ∙ sym (p .ilmd .ensures) ∙ c .before .if2 .taken) in
+    open-capacity b (eq-eqb _ _ (q .if1 .left)) z (c .opened2 .ensures)
 
 opened-requires-3 : tie.Need-opened-requires-3
 opened-requires-3 c κs = search needs
 
 returns-3 : tie.Need-returns-3
-unfolding openRefusal openAnswer
 returns-3 c =
-    let h : ilmd (now (c .before .before .before .before .before .before .args .bytes)) ≡ 0 → ⊥ =
-    λ e. c .before .if2 .left (byte-is (c .before .before) ∙ e) in
-    simp (eq-eqb _ _ (c .before .before .before .before .if1 .left), ne-eqb _ _ h, c .opened3 .ensures, c .before .before .before .ten-bytes .ensures)
+    let p = c .before .before in
+    let q = p .before .before in
+    let b = now (q .before .before .args .bytes) in
+    let w = p .before .ten-at .ensures ∙ whole 10 b (q .if1 .left) in
+    let z = ne-eqb (ilmd b) 0 (λ e. c .before .if2 .left (p .ilmd .ensures ∙ ap ilmd w ∙ e)) in
+    open-done b (eq-eqb _ _ (q .if1 .left)) z (c .opened3 .ensures ∙ ap opened w)
 
 pub open-spec : {M : Type 1} → statement M
 open-spec =
@@ -53,7 +57,7 @@ open-spec =
     (tie.spec
     opened-requires
     returns
-    ten-bytes-requires
+    ten-at-requires
     ilmd-requires
     opened-requires-2
     returns-2

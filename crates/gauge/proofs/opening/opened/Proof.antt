@@ -1,22 +1,39 @@
--- The callees' results, put together. Assumes nothing.
-use borrow.Author.Needs.{needs}
+-- The parts, put together. Assumes nothing.
 use Rattle.gauge.specs.Opening.{opened}
+use Rattle.gauge.proofs.GaugeLaws.{gauge-is}
+use borrow.Author.Needs.{needs}
 use Rattle.gauge.proofs.opening.opened.Statement.{statement}
 use Rattle.gauge.proofs.opening.opened.Tie as tie
 
-opened-charge-requires : tie.Need-opened-charge-requires
-opened-charge-requires c κs = search needs
+opened-requires : tie.Need-opened-requires
+opened-requires c κs = search needs
 
-opened-shown-requires : tie.Need-opened-shown-requires
-opened-shown-requires c κs = search needs
+none-requires : tie.Need-none-requires
+none-requires c κs = search needs
 
-opened-host-requires : tie.Need-opened-host-requires
-opened-host-requires c κs = search needs
+s0-requires : tie.Need-s0-requires
+s0-requires c κs = search needs
+
+opened-requires-2 : tie.Need-opened-requires-2
+opened-requires-2 c κs = search needs
+
+opened-requires-3 : tie.Need-opened-requires-3
+opened-requires-3 c κs = search needs
 
 returns : tie.Need-returns
 unfolding opened
-returns c = cc
+returns c =
+    let p = c .before .before in
+    let q = p .before .before in
+    gauge-is (q .opened .ensures) (p .before .none .ensures) (p .s0 .ensures) (c .before .opened2 .ensures) (c .opened3 .ensures)
 
 pub opened-spec : {M : Type 1} → statement M
 opened-spec =
-    tie.close (tie.spec opened-charge-requires opened-shown-requires opened-host-requires returns)
+    tie.close
+    (tie.spec
+    opened-requires
+    none-requires
+    s0-requires
+    opened-requires-2
+    opened-requires-3
+    returns)

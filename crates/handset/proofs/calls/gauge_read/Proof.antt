@@ -1,12 +1,9 @@
 -- Bytes that are not in the form answer 14; the read of any other is the proved one. Assumes nothing.
-use mathlib.Core.Path.{_∙_, sym, ap}
+use mathlib.Core.Path.{_∙_, sym}
 use denote.Ref.{now}
-use lib.ListN.{length}
 use borrow.Author.Tests.{not-true, not-false}
-use Rattle.gauge.specs.declared.state.Gauge.{Gauge}
-use Rattle.registers.specs.Reading.{readRefusal, replyAfter}
-use Rattle.handset.proofs.CallLaws.{misfit-read, read-done}
-use Rattle.handset.proofs.RoundTripLaws.{form-length}
+use Rattle.saved.proofs.LoadLaws.{decoded-is}
+use Rattle.handset.proofs.ReadLaws.{misfit-read, read-done}
 use borrow.Author.Needs.{needs}
 use Rattle.handset.proofs.calls.gauge_read.Statement.{statement}
 use Rattle.handset.proofs.calls.gauge_read.Tie as tie
@@ -15,10 +12,13 @@ form-fits-requires : tie.Need-form-fits-requires
 form-fits-requires c κs = search needs
 
 returns : tie.Need-returns
-returns c = misfit-read _ _ _ _ _ _ (sym (c .before .form-fits .ensures) ∙ not-true _ (c .if1 .taken))
+returns c =
+    let f = c .before in
+    let a = f .before .before .before .args in
+    misfit-read (now (a .saved)) (a .address) (a .count) (a .place) (now (a .reply)) (sym (f .form-fits .ensures) ∙ not-true _ (c .if1 .taken))
 
 decoded-requires : tie.Need-decoded-requires
-decoded-requires c κs = form-length _ (sym (c .before .form-fits .ensures) ∙ not-false _ (c .if1 .left))
+decoded-requires c κs = search needs
 
 read-requires : tie.Need-read-requires
 read-requires c κs = search needs
@@ -28,11 +28,13 @@ same-length c = search needs
 
 returns-2 : tie.Need-returns-2
 returns-2 c =
-    let a = c .before .before .before .before .before .before .before .before .before .args in
-    let done = read-done (now (a .saved)) (a .address) (a .count) (a .place) (length (now (a .reply))) (now (a .reply)) (sym (c .before .before .before .before .before .before .form-fits .ensures) ∙ not-false _ (c .before .before .before .before .before .if1 .left)) in (
-      c .before .before .read .ensures .0 ∙ ap (λ (g : Gauge). readRefusal g (a .address) (a .count) (a .place) (length (now (a .reply)))) (c .before .before .before .before .decoded .ensures) ∙ done .0,
-      c .before .before .read .ensures .1 ∙ ap (λ (g : Gauge). replyAfter g (a .address) (a .count) (a .place) (now (a .reply))) (c .before .before .before .before .decoded .ensures) ∙ done .1,
-    )
+    let r = c .before .before in
+    let d = r .before .before in
+    let i = d .before in
+    let f = i .before in
+    let a = f .before .before .before .args in
+    let fit = sym (f .form-fits .ensures) ∙ not-false _ (i .if1 .left) in
+    read-done (now (a .saved)) (a .address) (a .count) (a .place) (now (a .reply)) fit (d .decoded .ensures ∙ decoded-is _ fit) (r .read .ensures .0) (r .read .ensures .1)
 
 pub gauge-read-spec : {M : Type 1} → statement M
 gauge-read-spec =

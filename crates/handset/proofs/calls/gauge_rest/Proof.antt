@@ -1,22 +1,14 @@
--- The ways through a call on the saved bytes. Assumes nothing.
-use mathlib.Core.Path.{_≡_, _∙_, sym, ap}
+-- Bytes that are not in the form answer 14; of any other what is kept of the proved call's answer. Assumes nothing.
+use mathlib.Core.Path.{_∙_, sym}
 use denote.Ref.{now}
-use lib.IntN.{ℤ}
 use borrow.Author.Tests.{not-true, not-false}
+use Rattle.numbers.proofs.SignedLaws.{narrow}
+use Rattle.saved.proofs.LoadLaws.{decoded-is}
 use Rattle.handset.specs.Calls.{restCall}
-use Rattle.handset.specs.Form.{loaded}
-use Rattle.cell.proofs.SignedLaws.{narrow}
-use Rattle.handset.proofs.CallLaws.{done, misfit, refused, rest-rejects}
-use Rattle.handset.proofs.RoundTripLaws.{form-length}
+use Rattle.handset.proofs.CallLaws.{kept, misfit, rest-rejects, rested}
 use borrow.Author.Needs.{needs}
 use Rattle.handset.proofs.calls.gauge_rest.Statement.{statement}
 use Rattle.handset.proofs.calls.gauge_rest.Tie as tie
-
-answered : (c : tie.After-rest) → c .rest .result ≡ restCall (c .before .before .before .before .before .before .before .args .windows) (c .before .before .before .before .before .before .before .args .temperature) (loaded (now (c .before .before .before .before .before .before .before .args .saved)))
-answered c =
-    c .rest .ensures
-    ∙ ap (λ (z : ℤ). restCall (c .before .before .before .before .before .before .before .args .windows) z (c .before .decoded .result)) (narrow _ (c .before .before .before .before .before .before .before .fits .temperature))
-    ∙ ap (restCall (c .before .before .before .before .before .before .before .args .windows) (c .before .before .before .before .before .before .before .args .temperature)) (c .before .decoded .ensures)
 
 form-fits-requires : tie.Need-form-fits-requires
 form-fits-requires c κs = search needs
@@ -25,28 +17,36 @@ same-length : tie.Need-same-length
 same-length c = search needs
 
 returns : tie.Need-returns
-returns c = misfit _ _ (sym (c .before .form-fits .ensures) ∙ not-true _ (c .if1 .taken))
+returns c =
+    let f = c .before in
+    let a = f .before .before .before .args in
+    misfit (now (a .saved)) (restCall (a .windows) (a .temperature)) (sym (f .form-fits .ensures) ∙ not-true _ (c .if1 .taken))
 
 decoded-requires : tie.Need-decoded-requires
-decoded-requires c κs = form-length _ (sym (c .before .before .form-fits .ensures) ∙ not-false _ (c .before .if1 .left))
+decoded-requires c κs = search needs
 
 rest-requires : tie.Need-rest-requires
 rest-requires c κs = search needs
+
+keep-requires : tie.Need-keep-requires
+keep-requires c κs = search needs
 
 same-length-2 : tie.Need-same-length-2
 same-length-2 c = search needs
 
 returns-2 : tie.Need-returns-2
-returns-2 c = refused _ (restCall (c .before .before .before .before .before .before .before .before .before .args .windows) (c .before .before .before .before .before .before .before .before .before .args .temperature)) (rest-rejects _ _) (sym (c .before .before .before .before .before .before .form-fits .ensures) ∙ not-false _ (c .before .before .before .before .before .if1 .left)) _ (answered (c .before .before)) (c .if2 .taken)
-
-store-requires : tie.Need-store-requires
-store-requires c κs = form-length _ (sym (c .before .before .before .before .before .before .before .before .form-fits .ensures) ∙ not-false _ (c .before .before .before .before .before .before .before .if1 .left))
-
-same-length-3 : tie.Need-same-length-3
-same-length-3 c = search needs
-
-returns-3 : tie.Need-returns-3
-returns-3 c = done _ (restCall (c .before .before .before .before .before .before .before .before .before .before .before .before .before .before .args .windows) (c .before .before .before .before .before .before .before .before .before .before .before .before .before .before .args .temperature)) (rest-rejects _ _) (sym (c .before .before .before .before .before .before .before .before .before .before .before .form-fits .ensures) ∙ not-false _ (c .before .before .before .before .before .before .before .before .before .before .if1 .left)) _ (answered (c .before .before .before .before .before .before .before)) _ (c .before .before .before .before .before .if2 .left) (c .before .before .store .ensures)
+returns-2 c =
+    let k = c .before .before in
+    let w = k .before .before in
+    let d = w .before in
+    let i = d .before .before in
+    let f = i .before in
+    let s = f .before .before .before in
+    let a = s .args in
+    let fit = sym (f .form-fits .ensures) ∙ not-false _ (i .if1 .left) in
+    kept (now (a .saved)) (restCall (a .windows) (a .temperature)) (rest-rejects (a .windows) (a .temperature))
+    fit
+    (rested (a .windows) (w .rest .ensures) (narrow _ (s .fits .temperature)) (d .decoded .ensures ∙ decoded-is _ fit)) (k .keep .ensures .0) (k .keep .ensures .1)
 
 pub gauge-rest-spec : {M : Type 1} → statement M
 gauge-rest-spec =
@@ -57,8 +57,6 @@ gauge-rest-spec =
     returns
     decoded-requires
     rest-requires
+    keep-requires
     same-length-2
-    returns-2
-    store-requires
-    same-length-3
-    returns-3)
+    returns-2)

@@ -1,26 +1,14 @@
--- The ways through a call on the saved bytes. Assumes nothing.
-use mathlib.Core.Path.{_≡_, _∙_, sym, ap}
+-- Bytes that are not in the form answer 14; of any other what is kept of the proved call's answer. Assumes nothing.
+use mathlib.Core.Path.{_∙_, sym}
 use denote.Ref.{now}
-use lib.IntN.{ℤ}
-use mir.Syntax.{w32}
-use mir.Val.{ofZ, toZ}
 use borrow.Author.Tests.{not-true, not-false}
+use Rattle.numbers.proofs.SignedLaws.{narrow}
+use Rattle.saved.proofs.LoadLaws.{decoded-is}
 use Rattle.handset.specs.Calls.{windowCall}
-use Rattle.handset.specs.Form.{loaded}
-use Rattle.cell.proofs.SignedLaws.{narrow}
-use Rattle.handset.proofs.CallLaws.{done, misfit, refused, window-rejects}
-use Rattle.handset.proofs.RoundTripLaws.{form-length}
+use Rattle.handset.proofs.CallLaws.{kept, misfit, window-rejects, windowed}
 use borrow.Author.Needs.{needs}
 use Rattle.handset.proofs.calls.gauge_window.Statement.{statement}
 use Rattle.handset.proofs.calls.gauge_window.Tie as tie
-
-answered : (c : tie.After-window) → c .window .result ≡ windowCall (c .before .before .before .before .before .before .before .args .current) (c .before .before .before .before .before .before .before .args .voltage) (c .before .before .before .before .before .before .before .args .temperature) (loaded (now (c .before .before .before .before .before .before .before .args .saved)))
-answered c =
-    c .window .ensures
-    ∙ ap (λ (z : ℤ). windowCall z (toZ w32 (ofZ w32 (c .before .before .before .before .before .before .before .args .voltage))) (toZ w32 (ofZ w32 (c .before .before .before .before .before .before .before .args .temperature))) (c .before .decoded .result)) (narrow _ (c .before .before .before .before .before .before .before .fits .current))
-    ∙ ap (λ (z : ℤ). windowCall (c .before .before .before .before .before .before .before .args .current) z (toZ w32 (ofZ w32 (c .before .before .before .before .before .before .before .args .temperature))) (c .before .decoded .result)) (narrow _ (c .before .before .before .before .before .before .before .fits .voltage))
-    ∙ ap (λ (z : ℤ). windowCall (c .before .before .before .before .before .before .before .args .current) (c .before .before .before .before .before .before .before .args .voltage) z (c .before .decoded .result)) (narrow _ (c .before .before .before .before .before .before .before .fits .temperature))
-    ∙ ap (windowCall (c .before .before .before .before .before .before .before .args .current) (c .before .before .before .before .before .before .before .args .voltage) (c .before .before .before .before .before .before .before .args .temperature)) (c .before .decoded .ensures)
 
 form-fits-requires : tie.Need-form-fits-requires
 form-fits-requires c κs = search needs
@@ -29,28 +17,37 @@ same-length : tie.Need-same-length
 same-length c = search needs
 
 returns : tie.Need-returns
-returns c = misfit _ _ (sym (c .before .form-fits .ensures) ∙ not-true _ (c .if1 .taken))
+returns c =
+    let f = c .before in
+    let a = f .before .before .before .args in
+    misfit (now (a .saved)) (windowCall (a .current) (a .voltage) (a .temperature)) (sym (f .form-fits .ensures) ∙ not-true _ (c .if1 .taken))
 
 decoded-requires : tie.Need-decoded-requires
-decoded-requires c κs = form-length _ (sym (c .before .before .form-fits .ensures) ∙ not-false _ (c .before .if1 .left))
+decoded-requires c κs = search needs
 
 window-requires : tie.Need-window-requires
 window-requires c κs = search needs
+
+keep-requires : tie.Need-keep-requires
+keep-requires c κs = search needs
 
 same-length-2 : tie.Need-same-length-2
 same-length-2 c = search needs
 
 returns-2 : tie.Need-returns-2
-returns-2 c = refused _ (windowCall (c .before .before .before .before .before .before .before .before .before .args .current) (c .before .before .before .before .before .before .before .before .before .args .voltage) (c .before .before .before .before .before .before .before .before .before .args .temperature)) (window-rejects _ _ _) (sym (c .before .before .before .before .before .before .form-fits .ensures) ∙ not-false _ (c .before .before .before .before .before .if1 .left)) _ (answered (c .before .before)) (c .if2 .taken)
-
-store-requires : tie.Need-store-requires
-store-requires c κs = form-length _ (sym (c .before .before .before .before .before .before .before .before .form-fits .ensures) ∙ not-false _ (c .before .before .before .before .before .before .before .if1 .left))
-
-same-length-3 : tie.Need-same-length-3
-same-length-3 c = search needs
-
-returns-3 : tie.Need-returns-3
-returns-3 c = done _ (windowCall (c .before .before .before .before .before .before .before .before .before .before .before .before .before .before .args .current) (c .before .before .before .before .before .before .before .before .before .before .before .before .before .before .args .voltage) (c .before .before .before .before .before .before .before .before .before .before .before .before .before .before .args .temperature)) (window-rejects _ _ _) (sym (c .before .before .before .before .before .before .before .before .before .before .before .form-fits .ensures) ∙ not-false _ (c .before .before .before .before .before .before .before .before .before .before .if1 .left)) _ (answered (c .before .before .before .before .before .before .before)) _ (c .before .before .before .before .before .if2 .left) (c .before .before .store .ensures)
+returns-2 c =
+    let k = c .before .before in
+    let w = k .before .before in
+    let d = w .before in
+    let i = d .before .before in
+    let f = i .before in
+    let s = f .before .before .before in
+    let a = s .args in
+    let fit = sym (f .form-fits .ensures) ∙ not-false _ (i .if1 .left) in
+    kept (now (a .saved)) (windowCall (a .current) (a .voltage) (a .temperature)) (window-rejects (a .current) (a .voltage) (a .temperature))
+    fit
+    (windowed (w .window .ensures) (narrow _ (s .fits .current)) (narrow _ (s .fits .voltage)) (narrow _ (s .fits .temperature)) (d .decoded .ensures ∙ decoded-is _ fit))
+    (k .keep .ensures .0) (k .keep .ensures .1)
 
 pub gauge-window-spec : {M : Type 1} → statement M
 gauge-window-spec =
@@ -61,8 +58,6 @@ gauge-window-spec =
     returns
     decoded-requires
     window-requires
+    keep-requires
     same-length-2
-    returns-2
-    store-requires
-    same-length-3
-    returns-3)
+    returns-2)

@@ -1,21 +1,17 @@
 -- The ways through a call on the saved bytes; a byte stored as given is put in its place. Assumes nothing.
 use mathlib.Core.Path.{_≡_, _∙_, sym, ap}
-use Prim.Native.Nat.{ℕ}
 use denote.Ref.{now}
 use native.Mathlib.Omega.{arith}
-use lib.ListN.{length, set}
+use lib.ListN.{length}
 use borrow.Author.Tests.{not-true, not-false}
+use Rattle.saved.proofs.LoadLaws.{decoded-is, form-length}
+use Rattle.saved.specs.Form.{newest}
 use Rattle.handset.specs.Calls.{writeCall}
-use Rattle.handset.specs.Form.{loaded}
-use Rattle.handset.proofs.CallLaws.{done, misfit, refused, write-rejects}
+use Rattle.handset.proofs.CallLaws.{done, kept, misfit, refused, write-rejects}
 use Rattle.handset.proofs.HostByteLaws.{byte-written}
-use Rattle.handset.proofs.RoundTripLaws.{form-length}
 use borrow.Author.Needs.{needs}
 use Rattle.handset.proofs.calls.gauge_write.Statement.{statement}
 use Rattle.handset.proofs.calls.gauge_write.Tie as tie
-
-answered : (c : tie.After-write) → c .write .result ≡ writeCall (c .before .before .before .before .before .before .before .args .address) (c .before .before .before .before .before .before .before .args .value) (loaded (now (c .before .before .before .before .before .before .before .args .saved)))
-answered c = c .write .ensures ∙ ap (writeCall (c .before .before .before .before .before .before .before .args .address) (c .before .before .before .before .before .before .before .args .value)) (c .before .decoded .ensures)
 
 form-fits-requires : tie.Need-form-fits-requires
 form-fits-requires c κs = search needs
@@ -24,46 +20,78 @@ same-length : tie.Need-same-length
 same-length c = search needs
 
 returns : tie.Need-returns
-returns c = misfit _ _ (sym (c .before .form-fits .ensures) ∙ not-true _ (c .if1 .taken))
+returns c =
+    let f = c .before in
+    let a = f .before .before .before .args in
+    misfit (now (a .saved)) (writeCall (a .address) (a .value)) (sym (f .form-fits .ensures) ∙ not-true _ (c .if1 .taken))
 
 decoded-requires : tie.Need-decoded-requires
-decoded-requires c κs = form-length _ (sym (c .before .before .form-fits .ensures) ∙ not-false _ (c .before .if1 .left))
+decoded-requires c κs = search needs
 
 write-requires : tie.Need-write-requires
 write-requires c κs = search needs
+
+keep-requires : tie.Need-keep-requires
+keep-requires c κs = search needs
 
 same-length-2 : tie.Need-same-length-2
 same-length-2 c = search needs
 
 returns-2 : tie.Need-returns-2
-returns-2 c = refused _ (writeCall (c .before .before .before .before .before .before .before .before .before .args .address) (c .before .before .before .before .before .before .before .before .before .args .value)) (write-rejects _ _) (sym (c .before .before .before .before .before .before .form-fits .ensures) ∙ not-false _ (c .before .before .before .before .before .if1 .left)) _ (answered (c .before .before)) (c .if2 .taken)
-
-host-place-requires : tie.Need-host-place-requires
-host-place-requires c κs = search needs
-
-slice-write-saved : tie.Need-slice-write-saved
-slice-write-saved c =
-    let l : length (now (c .before .before .before .before .before .before .before .before .before .before .before .args .saved)) ≡ 41 = form-length _ (sym (c .before .before .before .before .before .before .before .before .form-fits .ensures) ∙ not-false _ (c .before .before .before .before .before .before .before .if1 .left)) in
-    omega arith
+returns-2 c =
+    let k = c .before .before in
+    let w = k .before .before .before in
+    let d = w .before in
+    let i = d .before .before in
+    let f = i .before in
+    let a = f .before .before .before .args in
+    let fit = sym (f .form-fits .ensures) ∙ not-false _ (i .if1 .left) in
+    kept (now (a .saved)) (writeCall (a .address) (a .value)) (write-rejects (a .address) (a .value))
+    fit
+    (w .write .ensures ∙ ap (writeCall (a .address) (a .value)) (d .decoded .ensures ∙ decoded-is _ fit)) (k .keep .ensures .0) (k .keep .ensures .1)
 
 same-length-3 : tie.Need-same-length-3
 same-length-3 c = search needs
 
 returns-3 : tie.Need-returns-3
 returns-3 c =
-    let f = sym (c .before .before .before .before .before .before .before .before .form-fits .ensures) ∙ not-false _ (c .before .before .before .before .before .before .before .if1 .left) in
-    done _ (writeCall (c .before .before .before .before .before .before .before .before .before .before .before .args .address) (c .before .before .before .before .before .before .before .before .before .before .before .args .value)) (write-rejects _ _) f _ (answered (c .before .before .before .before)) _ (c .before .before .if2 .left)
-    (ap (λ (n : ℕ). set (now (c .before .before .before .before .before .before .before .before .before .before .before .args .saved)) n (c .before .before .before .before .before .before .before .before .before .before .before .args .value)) (c .host-place .ensures .0)
-    ∙ byte-written (now (c .before .before .before .before .before .before .before .before .before .before .before .args .saved)) (λ k. c .before .before .before .before .before .before .before .before .before .before .slice-known .given k .fits) f (c .before .before .before .before .before .before .before .before .before .before .before .args .address) (c .before .before .before .before .before .before .before .before .before .before .before .args .value) (c .before .if3 .taken) (omega arith) _ (answered (c .before .before .before .before)) (c .before .before .if2 .left))
+    let w = c .before .before .before in
+    let d = w .before in
+    let i = d .before .before in
+    let f = i .before in
+    let a = f .before .before .before .args in
+    let fit = sym (f .form-fits .ensures) ∙ not-false _ (i .if1 .left) in
+    refused (now (a .saved)) (writeCall (a .address) (a .value)) (write-rejects (a .address) (a .value))
+    fit
+    (w .write .ensures ∙ ap (writeCall (a .address) (a .value)) (d .decoded .ensures ∙ decoded-is _ fit)) (c .if3 .taken)
 
-store-requires : tie.Need-store-requires
-store-requires c κs = form-length _ (sym (c .before .before .before .before .before .before .before .before .before .form-fits .ensures) ∙ not-false _ (c .before .before .before .before .before .before .before .before .if1 .left))
+host-place-requires : tie.Need-host-place-requires
+host-place-requires c κs = search needs
+
+slice-write-saved : tie.Need-slice-write-saved
+slice-write-saved c =
+    let i = c .before .before .before .before .before .before .before in
+    let f = i .before in
+    let l : length (now (f .before .before .before .args .saved)) ≡ 41 = form-length newest _ (sym (f .form-fits .ensures) ∙ not-false _ (i .if1 .left)) in
+    omega arith
 
 same-length-4 : tie.Need-same-length-4
 same-length-4 c = search needs
 
 returns-4 : tie.Need-returns-4
-returns-4 c = done _ (writeCall (c .before .before .before .before .before .before .before .before .before .before .before .before .before .before .before .args .address) (c .before .before .before .before .before .before .before .before .before .before .before .before .before .before .before .args .value)) (write-rejects _ _) (sym (c .before .before .before .before .before .before .before .before .before .before .before .before .form-fits .ensures) ∙ not-false _ (c .before .before .before .before .before .before .before .before .before .before .before .if1 .left)) _ (answered (c .before .before .before .before .before .before .before .before)) _ (c .before .before .before .before .before .before .if2 .left) (c .before .before .store .ensures)
+returns-4 c =
+    let n = c .before in
+    let z = n .before .before in
+    let w = z .before in
+    let d = w .before in
+    let i = d .before .before in
+    let f = i .before in
+    let s = f .before .before in
+    let a = s .before .args in
+    let fit = sym (f .form-fits .ensures) ∙ not-false _ (i .if1 .left) in
+    let is = w .write .ensures ∙ ap (writeCall (a .address) (a .value)) (d .decoded .ensures ∙ decoded-is _ fit) in
+    done (now (a .saved)) (writeCall (a .address) (a .value)) (write-rejects (a .address) (a .value)) fit is (n .if3 .left)
+    (byte-written (now (a .saved)) (λ k. s .slice-known .given k .fits) fit (a .address) (a .value) (z .if2 .left) (omega arith) is (n .if3 .left) (c .host-place .ensures .0))
 
 pub gauge-write-spec : {M : Type 1} → statement M
 gauge-write-spec =
@@ -74,12 +102,12 @@ gauge-write-spec =
     returns
     decoded-requires
     write-requires
+    keep-requires
     same-length-2
     returns-2
-    host-place-requires
-    slice-write-saved
     same-length-3
     returns-3
-    store-requires
+    host-place-requires
+    slice-write-saved
     same-length-4
     returns-4)

@@ -33,15 +33,18 @@ enum-told-3 c = search needs
 
 returns-3 : tie.Need-returns-3
 unfolding joined
-returns-3 c = simp (c .before .before .before .before .before .before .first .given .1, c .before .before .before .second .given .1, c .enum-told3 .given .1)
+returns-3 c =
+    let p = c .before .before .before in
+    simp (p .before .before .before .first .given .1, p .second .given .1, c .enum-told3 .given .1)
 
 returns-4 : tie.Need-returns-4
 returns-4 c =
-    let x = c .before .before .before .before .before .before .before .first .given in
-    let y = c .before .before .before .before .second .given in
+    let q = c .before .before .before in
+    let p = q .before .before .before in
+    let x = p .before .first .given in
+    let y = q .before .second .given in
     let z = c .before .third .given in
-    numbers-joined (x .0 .0) (y .0 .0) (z .0 .0)
-    (c .before .before .before .before .before .before .known-told .given .0 .1) (c .before .before .before .known-told2 .given .0 .1)
+    numbers-joined (x .0 .0) (y .0 .0) (z .0 .0) (p .known-told .given .0 .1) (q .known-told2 .given .0 .1)
     (c .known-told3 .given .0 .1) _ _ _ (x .1) (y .1) (z .1)
 
 pub three-spec : {M : Type 1} → statement M

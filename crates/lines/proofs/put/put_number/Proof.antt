@@ -46,7 +46,8 @@ same-length c = search needs
 
 returns-3 : tie.Need-returns-3
 returns-3 c =
-    let a = c .before .before .before .before .before .before .before .before .args in
+    let p = c .before .before .before .before in
+    let a = p .before .before .before .before .args in
     let w = c .before .before .before .before .width in
     let h : a .at + 11 ≤ length (now (a .out)) = omega arith in
     let l = length-append (decimal (a .number)) (a .after ∷ []) in

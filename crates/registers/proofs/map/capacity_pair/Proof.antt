@@ -1,69 +1,75 @@
--- At each pair of addresses the map computes to the row's bytes. Assumes nothing.
-use Prim.Native.Nat.{_+_, _*_}
-use mathlib.Core.Path.{_≡_, refl, _∙_}
+-- At each pair of addresses the map computes to the bytes of its row. Assumes nothing.
+use mathlib.Core.Path.{refl, _∙_}
 use native.Mathlib.Omega.{arith}
-use borrow.Author.Needs.{needs}
-use Rattle.registers.specs.Map.{rows, lookUp, register}
-use Rattle.registers.specs.Values as Values
-use Rattle.registers.proofs.MapLaws.{shows-bytes, shows-pair}
+use Prim.Native.Nat.{_<_}
+use Rattle.registers.specs.Map.{lookUp, register, rows}
+use Rattle.registers.proofs.MapLaws.{last-of-five, shows-bytes, shows-pair}
 use Rattle.registers.proofs.map.capacity_pair.Statement.{statement}
 use Rattle.registers.proofs.map.capacity_pair.Tie as tie
 
-flags-requires : tie.Need-flags-requires
-flags-requires c κs = search needs
+lmd-fits : (s : tie.Start) → s .args .gauge .charge .lmd < 65_536
+lmd-fits s = omega arith
+
+flags-byte-requires : tie.Need-flags-byte-requires
+flags-byte-requires c κs = tt
 
 rsoc-requires : tie.Need-rsoc-requires
-rsoc-requires c κs = search needs
+rsoc-requires c κs = c .before .before .pre .0
 
 pair-of-requires : tie.Need-pair-of-requires
-pair-of-requires c κs = search needs
+pair-of-requires c κs = tt
 
 returns : tie.Need-returns
 unfolding register lookUp rows
 returns c =
-    let g = c .before .before .before .before .args .gauge in
-    let e : c .pair-of .result ≡ Values.flags g + 256 * Values.rsoc g = cc in
-    e ∙ shows-bytes g _ 5 (Values.flags g) (Values.rsoc g) (c .before .before .before .if1 .taken) (omega arith) (omega arith) refl
+    let p = c .before in
+    let q = p .before in
+    let r = q .before in
+    c .pair-of .ensures
+    ∙ shows-bytes (r .before .args .gauge) (r .if1 .taken) (q .flags-byte .ensures) (p .rsoc .ensures) (q .flags-byte .ok)
+    (p .rsoc .ok) refl
 
 nac-requires : tie.Need-nac-requires
-nac-requires c κs = search needs
+nac-requires c κs = c .before .before .pre .0
 
 returns-2 : tie.Need-returns-2
 unfolding register lookUp rows
 returns-2 c =
-    let g = c .before .before .before .args .gauge in
-    c .nac .ensures .0 ∙ shows-pair g _ 6 (Values.nac g) (c .before .if2 .taken) (omega arith) refl
+    let p = c .before in
+    shows-pair (p .before .before .args .gauge) (p .if2 .taken) (c .nac .ensures .0) (c .nac .ok) refl
 
 returns-3 : tie.Need-returns-3
 unfolding register lookUp rows
-returns-3 c =
-    let g = c .before .before .before .args .gauge in
-    shows-pair g _ 7 (g .charge .lmd) (c .if3 .taken) (omega arith) refl
+returns-3 c = let s = c .before .before .before in shows-pair (s .args .gauge) (c .if3 .taken) refl (lmd-fits s) refl
 
 cac-requires : tie.Need-cac-requires
-cac-requires c κs = search needs
+cac-requires c κs = c .before .before .before .before .pre .0
 
 returns-4 : tie.Need-returns-4
 unfolding register lookUp rows
 returns-4 c =
-    let g = c .before .before .before .before .before .args .gauge in
-    c .cac .ensures ∙ shows-pair g _ 8 (Values.cac g) (c .before .if4 .taken) (omega arith) refl
+    let p = c .before in
+    shows-pair (p .before .before .before .before .args .gauge) (p .if4 .taken) (c .cac .ensures) (c .cac .ok) refl
 
 fcac-requires : tie.Need-fcac-requires
-fcac-requires c κs = search needs
+fcac-requires c κs = tt
 
 returns-5 : tie.Need-returns-5
 unfolding register lookUp rows
 returns-5 c =
-    let g = c .before .before .before .before .before .args .gauge in
-    let last : c .before .before .before .before .before .args .pair ≡ 9 = omega arith in
-    c .fcac .ensures ∙ shows-pair g _ 9 (Values.fcac g) last (omega arith) refl
+    let o = c .before in
+    let p = o .before in
+    let q = p .before in
+    let r = q .before in
+    let s = r .before in
+    let last = last-of-five 5 (s .pre .1) (s .pre .2) (r .if1 .left) (q .if2 .left) (p .if3 .left) (o .if4 .left) in
+    shows-pair (s .args .gauge) last (c .fcac .ensures) (c .fcac .ok) refl
 
 pub capacity-pair-spec : {M : Type 1} → statement M
 capacity-pair-spec =
     tie.close
     (tie.spec
-    flags-requires
+    flags-byte-requires
     rsoc-requires
     pair-of-requires
     returns

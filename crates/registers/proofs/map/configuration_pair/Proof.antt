@@ -1,10 +1,7 @@
--- The two bytes stand at their places from 0x76 on. Assumes nothing.
-use Prim.Native.Nat.{_+_, _-_, _*_}
-use mathlib.Core.Path.{_≡_, _∙_}
-use native.Mathlib.Omega.{arith}
-use lib.ListN.{getD}
+-- The two bytes, each as its row shows it. Assumes nothing.
+use mathlib.Core.Path.{_∙_}
 use borrow.Author.Needs.{needs}
-use Rattle.registers.proofs.MapLaws.{configuration-shown, shows-bytes}
+use Rattle.registers.proofs.MapLaws.{bytes-shown}
 use Rattle.registers.proofs.map.configuration_pair.Statement.{statement}
 use Rattle.registers.proofs.map.configuration_pair.Tie as tie
 
@@ -27,16 +24,14 @@ configuration-byte-requires-2 : tie.Need-configuration-byte-requires-2
 configuration-byte-requires-2 c κs = search needs
 
 pair-of-requires : tie.Need-pair-of-requires
-pair-of-requires c κs = search needs
+pair-of-requires c κs = tt
 
 returns : tie.Need-returns
 returns c =
-    let g = c .before .before .before .before .args .gauge in
-    let k = c .before .before .before .before .args .pair - 59 in
-    let low : c .before .before .configuration-byte .result ≡ getD (g .configuration) (2 * k) 0 = cc in
-    let high : c .before .configuration-byte2 .result ≡ getD (g .configuration) (2 * k + 1) 0 = cc in
-    let e : c .pair-of .result ≡ getD (g .configuration) (2 * k) 0 + 256 * getD (g .configuration) (2 * k + 1) 0 = cc in
-    e ∙ shows-bytes g _ (59 + k) _ _ (omega arith) (omega arith) (omega arith) (configuration-shown g k (omega arith))
+    let p = c .before in
+    let q = p .before in
+    c .pair-of .ensures
+    ∙ bytes-shown (q .configuration-byte .ensures) (p .configuration-byte2 .ensures) (q .configuration-byte .ok) (p .configuration-byte2 .ok)
 
 pub configuration-pair-spec : {M : Type 1} → statement M
 configuration-pair-spec =

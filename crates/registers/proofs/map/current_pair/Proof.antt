@@ -1,52 +1,57 @@
--- At each pair of addresses the map computes to the row's bytes. Assumes nothing.
-use mathlib.Core.Path.{_≡_, refl, _∙_}
+-- At each pair of addresses the map computes to the bytes of its row. Assumes nothing.
+use mathlib.Core.Path.{refl}
 use native.Mathlib.Omega.{arith}
-use borrow.Author.Needs.{needs}
-use Rattle.registers.specs.Map.{rows, lookUp, register}
-use Rattle.registers.specs.Values as Values
-use Rattle.registers.proofs.MapLaws.{shows-pair}
+use Prim.Native.Nat.{_<_}
+use Rattle.registers.specs.Map.{lookUp, register, rows}
+use Rattle.registers.proofs.MapLaws.{last-of-five, shows-pair}
 use Rattle.registers.proofs.map.current_pair.Statement.{statement}
 use Rattle.registers.proofs.map.current_pair.Tie as tie
 
+iav-fits : (s : tie.Start) → s .args .gauge .sample .current .magnitude < 65_536
+iav-fits s = omega arith
+
+standby-fits : (s : tie.Start) → s .args .gauge .standby < 65_536
+standby-fits s = omega arith
+
 returns : tie.Need-returns
 unfolding register lookUp rows
-returns c =
-    let g = c .before .args .gauge in
-    shows-pair g _ 10 (g .shown .current .magnitude) (c .if1 .taken) (omega arith) refl
+returns c = let s = c .before in shows-pair (s .args .gauge) (c .if1 .taken) refl (iav-fits s) refl
 
 tte-requires : tie.Need-tte-requires
-tte-requires c κs = search needs
+tte-requires c κs = c .before .before .pre .0
 
 returns-2 : tie.Need-returns-2
 unfolding register lookUp rows
 returns-2 c =
-    let g = c .before .before .before .args .gauge in
-    c .tte .ensures ∙ shows-pair g _ 11 (Values.tte g) (c .before .if2 .taken) (omega arith) refl
+    let p = c .before in
+    shows-pair (p .before .before .args .gauge) (p .if2 .taken) (c .tte .ensures) (c .tte .ok) refl
 
 ttf-requires : tie.Need-ttf-requires
-ttf-requires c κs = search needs
+ttf-requires c κs = c .before .before .before .pre .0
 
 returns-3 : tie.Need-returns-3
 unfolding register lookUp rows
 returns-3 c =
-    let g = c .before .before .before .before .args .gauge in
-    c .ttf .ensures ∙ shows-pair g _ 12 (Values.ttf g) (c .before .if3 .taken) (omega arith) refl
+    let p = c .before in
+    shows-pair (p .before .before .before .args .gauge) (p .if3 .taken) (c .ttf .ensures) (c .ttf .ok) refl
 
 returns-4 : tie.Need-returns-4
 unfolding register lookUp rows
-returns-4 c =
-    let g = c .before .before .before .before .args .gauge in
-    shows-pair g _ 13 (g .shown .standby) (c .if4 .taken) (omega arith) refl
+returns-4 c = let s = c .before .before .before .before in shows-pair (s .args .gauge) (c .if4 .taken) refl (standby-fits s) refl
 
 stte-requires : tie.Need-stte-requires
-stte-requires c κs = search needs
+stte-requires c κs = c .before .before .before .before .pre .0
 
 returns-5 : tie.Need-returns-5
 unfolding register lookUp rows
 returns-5 c =
-    let g = c .before .before .before .before .before .args .gauge in
-    let last : c .before .before .before .before .before .args .pair ≡ 14 = omega arith in
-    c .stte .ensures ∙ shows-pair g _ 14 (Values.stte g) last (omega arith) refl
+    let o = c .before in
+    let p = o .before in
+    let q = p .before in
+    let r = q .before in
+    let s = r .before in
+    let last = last-of-five 10 (s .pre .1) (s .pre .2) (r .if1 .left) (q .if2 .left) (p .if3 .left) (o .if4 .left) in
+    shows-pair (s .args .gauge) last (c .stte .ensures) (c .stte .ok) refl
 
 pub current-pair-spec : {M : Type 1} → statement M
 current-pair-spec =

@@ -1,49 +1,60 @@
--- At each pair of addresses the map computes to the row's bytes. Assumes nothing.
-use mathlib.Core.Path.{_≡_, refl, _∙_}
+-- At each pair of addresses the map computes to the bytes of its row. Assumes nothing.
+use mathlib.Core.Path.{refl, _∙_}
 use native.Mathlib.Omega.{arith}
-use borrow.Author.Needs.{needs}
-use Rattle.registers.specs.Map.{rows, lookUp, register}
-use Rattle.registers.specs.Values as Values
-use Rattle.registers.proofs.MapLaws.{shows-bytes, shows-pair}
+use Prim.Native.Nat.{_<_}
+use Rattle.registers.specs.Map.{lookUp, register, rows}
+use Rattle.registers.proofs.MapLaws.{last-of-five, shows-bytes, shows-pair}
 use Rattle.registers.proofs.map.host_pair.Statement.{statement}
 use Rattle.registers.proofs.map.host_pair.Tie as tie
 
+mode-fits : (s : tie.Start) → s .args .gauge .host .mode < 256
+mode-fits s = omega arith
+
+ar-fits : (s : tie.Start) → s .args .gauge .host .ar < 65_536
+ar-fits s = omega arith
+
+temperature-fits : (s : tie.Start) → s .args .gauge .sample .temperature < 65_536
+temperature-fits s = omega arith
+
+voltage-fits : (s : tie.Start) → s .args .gauge .sample .voltage < 65_536
+voltage-fits s = omega arith
+
 pair-of-requires : tie.Need-pair-of-requires
-pair-of-requires c κs = search needs
+pair-of-requires c κs = tt
 
 returns : tie.Need-returns
 unfolding register lookUp rows
 returns c =
-    let g = c .before .before .args .gauge in
-    c .pair-of .ensures ∙ shows-bytes g _ 0 0 (g .host .mode) (c .before .if1 .taken) (omega arith) (omega arith) refl
+    let p = c .before in
+    let s = p .before in
+    c .pair-of .ensures ∙ shows-bytes (s .args .gauge) (p .if1 .taken) refl refl (omega arith) (mode-fits s) refl
 
 returns-2 : tie.Need-returns-2
 unfolding register lookUp rows
-returns-2 c =
-    let g = c .before .before .args .gauge in
-    shows-pair g _ 1 (g .host .ar) (c .if2 .taken) (omega arith) refl
+returns-2 c = let s = c .before .before in shows-pair (s .args .gauge) (c .if2 .taken) refl (ar-fits s) refl
 
 artte-requires : tie.Need-artte-requires
-artte-requires c κs = search needs
+artte-requires c κs = c .before .before .before .pre .0
 
 returns-3 : tie.Need-returns-3
 unfolding register lookUp rows
 returns-3 c =
-    let g = c .before .before .before .before .args .gauge in
-    c .artte .ensures ∙ shows-pair g _ 2 (Values.artte g) (c .before .if3 .taken) (omega arith) refl
+    let p = c .before in
+    shows-pair (p .before .before .before .args .gauge) (p .if3 .taken) (c .artte .ensures) (c .artte .ok) refl
 
 returns-4 : tie.Need-returns-4
 unfolding register lookUp rows
-returns-4 c =
-    let g = c .before .before .before .before .args .gauge in
-    shows-pair g _ 3 (g .shown .temperature) (c .if4 .taken) (omega arith) refl
+returns-4 c = let s = c .before .before .before .before in shows-pair (s .args .gauge) (c .if4 .taken) refl (temperature-fits s) refl
 
 returns-5 : tie.Need-returns-5
 unfolding register lookUp rows
 returns-5 c =
-    let g = c .before .before .before .before .args .gauge in
-    let last : c .before .before .before .before .args .pair ≡ 4 = omega arith in
-    shows-pair g _ 4 (g .shown .voltage) last (omega arith) refl
+    let p = c .before in
+    let q = p .before in
+    let r = q .before in
+    let s = r .before in
+    let last = last-of-five 0 (omega arith) (s .pre .1) (r .if1 .left) (q .if2 .left) (p .if3 .left) (c .if4 .left) in
+    shows-pair (s .args .gauge) last refl (voltage-fits s) refl
 
 pub host-pair-spec : {M : Type 1} → statement M
 host-pair-spec =

@@ -1,49 +1,54 @@
 -- Each group of pairs is what its function ensures; the pairs between are 0. Assumes nothing.
-use mathlib.Core.Path.{_≡_, refl, _∙_}
-use native.Mathlib.Omega.{arith}
-use borrow.Author.Needs.{needs}
-use Rattle.registers.specs.Map.{rows, lookUp, register}
-use Rattle.cell.specs.Configuration.{e1}
-use Rattle.registers.proofs.MapLaws.{shows-nothing, shows-pair}
+use mathlib.Core.Path.{refl}
+use Rattle.registers.specs.Map.{lookUp, register, rows}
+use Rattle.registers.proofs.MapLaws.{configuration-shown, shows-nothing, shows-pair}
 use Rattle.registers.proofs.map.pair_at.Statement.{statement}
 use Rattle.registers.proofs.map.pair_at.Tie as tie
 
 host-pair-requires : tie.Need-host-pair-requires
-host-pair-requires c κs = search needs
+host-pair-requires c κs = (c .before .pre .0, c .if1 .taken)
 
 returns : tie.Need-returns
-returns c = search needs
+returns c = c .host-pair .ensures
 
 capacity-pair-requires : tie.Need-capacity-pair-requires
-capacity-pair-requires c κs = search needs
+capacity-pair-requires c κs = let p = c .before in (p .before .pre .0, p .if1 .left, c .if2 .taken)
 
 returns-2 : tie.Need-returns-2
-returns-2 c = search needs
+returns-2 c = c .capacity-pair .ensures
 
 current-pair-requires : tie.Need-current-pair-requires
-current-pair-requires c κs = search needs
+current-pair-requires c κs = let p = c .before in (p .before .before .pre .0, p .if2 .left, c .if3 .taken)
 
 returns-3 : tie.Need-returns-3
-returns-3 c = search needs
+returns-3 c = c .current-pair .ensures
 
 e1-requires : tie.Need-e1-requires
-e1-requires c κs = search needs
+e1-requires c κs = tt
 
 returns-4 : tie.Need-returns-4
 unfolding register lookUp rows
 returns-4 c =
-    let g = c .before .before .before .before .before .before .args .gauge in
-    let e : c .e1 .result ≡ e1 (g .configuration) = cc in
-    e ∙ shows-pair g _ 16 (e1 (g .configuration)) (c .before .before .if4 .taken) (omega arith) refl
+    let p = c .before .before in
+    shows-pair (p .before .before .before .before .args .gauge) (p .if4 .taken) (c .e1 .ensures) (c .e1 .ok) refl
 
 returns-5 : tie.Need-returns-5
-returns-5 c = shows-nothing (c .before .before .before .before .before .args .gauge) (c .before .before .before .before .before .args .pair) (omega arith) (c .before .if4 .left) (omega arith)
+returns-5 c =
+    let p = c .before in
+    let q = p .before in
+    let a = q .before .before .before .args in
+    shows-nothing (a .gauge) (a .pair) (q .if3 .left) (p .if4 .left) (c .if5 .taken)
 
 configuration-pair-requires : tie.Need-configuration-pair-requires
-configuration-pair-requires c κs = search needs
+configuration-pair-requires c κs =
+    let p = c .before in
+    (p .if5 .left, p .before .before .before .before .before .pre .1)
 
 returns-6 : tie.Need-returns-6
-returns-6 c = search needs
+returns-6 c =
+    let p = c .before .before in
+    let s = p .before .before .before .before .before in
+    configuration-shown (s .args .gauge) (p .if5 .left) (s .pre .1) (c .configuration-pair .ensures)
 
 pub pair-at-spec : {M : Type 1} → statement M
 pair-at-spec =

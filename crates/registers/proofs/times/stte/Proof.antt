@@ -1,11 +1,11 @@
--- The result is what the calls ensure, put together. Assumes nothing.
+-- The quotient of the calls. Assumes nothing.
 use borrow.Author.Needs.{needs}
-use Rattle.registers.specs.Values.{stte}
+use Rattle.registers.proofs.TimesLaws.{stte-is}
 use Rattle.registers.proofs.times.stte.Statement.{statement}
 use Rattle.registers.proofs.times.stte.Tie as tie
 
 nac-requires : tie.Need-nac-requires
-nac-requires c κs = search needs
+nac-requires c κs = c .pre
 
 cast-minutes : tie.Need-cast-minutes
 cast-minutes c = search needs
@@ -14,11 +14,12 @@ mul-minutes : tie.Need-mul-minutes
 mul-minutes c = search needs
 
 minutes-requires : tie.Need-minutes-requires
-minutes-requires c κs = search needs
+minutes-requires c κs = tt
 
 returns : tie.Need-returns
-unfolding stte
-returns c = cc
+returns c =
+    let p = c .before in
+    stte-is (p .before .args .gauge) (p .nac .ensures .0) (c .minutes .ensures)
 
 pub stte-spec : {M : Type 1} → statement M
 stte-spec = tie.close (tie.spec nac-requires cast-minutes mul-minutes minutes-requires returns)

@@ -1,11 +1,11 @@
--- The result is what the calls ensure, put together. Assumes nothing.
+-- The quotient of the calls. Assumes nothing.
 use borrow.Author.Needs.{needs}
-use Rattle.registers.specs.Values.{tte}
+use Rattle.registers.proofs.TimesLaws.{tte-is}
 use Rattle.registers.proofs.times.tte.Statement.{statement}
 use Rattle.registers.proofs.times.tte.Tie as tie
 
 cac-requires : tie.Need-cac-requires
-cac-requires c κs = search needs
+cac-requires c κs = c .pre
 
 cast-minutes : tie.Need-cast-minutes
 cast-minutes c = search needs
@@ -14,14 +14,16 @@ mul-minutes : tie.Need-mul-minutes
 mul-minutes c = search needs
 
 discharge-requires : tie.Need-discharge-requires
-discharge-requires c κs = search needs
+discharge-requires c κs = tt
 
 minutes-requires : tie.Need-minutes-requires
-minutes-requires c κs = search needs
+minutes-requires c κs = tt
 
 returns : tie.Need-returns
-unfolding tte
-returns c = cc
+returns c =
+    let p = c .before in
+    let q = p .before in
+    tte-is (q .before .args .gauge) (q .cac .ensures) (p .discharge .ensures) (c .minutes .ensures)
 
 pub tte-spec : {M : Type 1} → statement M
 tte-spec =

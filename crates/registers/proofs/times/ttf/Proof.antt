@@ -1,11 +1,11 @@
--- The result is what the calls ensure, put together. Assumes nothing.
+-- NAC is at most LMD, so nothing is below 0; the quotient of the calls. Assumes nothing.
 use borrow.Author.Needs.{needs}
-use Rattle.registers.specs.Values.{ttf}
+use Rattle.registers.proofs.TimesLaws.{ttf-is}
 use Rattle.registers.proofs.times.ttf.Statement.{statement}
 use Rattle.registers.proofs.times.ttf.Tie as tie
 
 nac-requires : tie.Need-nac-requires
-nac-requires c κs = search needs
+nac-requires c κs = c .pre
 
 sub-missing : tie.Need-sub-missing
 sub-missing c = search needs
@@ -17,14 +17,16 @@ mul-minutes : tie.Need-mul-minutes
 mul-minutes c = search needs
 
 charge-requires : tie.Need-charge-requires
-charge-requires c κs = search needs
+charge-requires c κs = tt
 
 minutes-requires : tie.Need-minutes-requires
-minutes-requires c κs = search needs
+minutes-requires c κs = tt
 
 returns : tie.Need-returns
-unfolding ttf
-returns c = cc
+returns c =
+    let p = c .before in
+    let q = p .before .before in
+    ttf-is (q .before .args .gauge) (q .nac .ensures .0) (p .charge .ensures) (c .minutes .ensures)
 
 pub ttf-spec : {M : Type 1} → statement M
 ttf-spec =

@@ -1,18 +1,18 @@
--- The result is what the calls ensure, put together. Assumes nothing.
-use borrow.Author.Needs.{needs}
-use Rattle.registers.specs.Values.{fcac}
+-- LMD less D. Assumes nothing.
+use Rattle.registers.proofs.ValuesLaws.{fcac-is}
 use Rattle.registers.proofs.values.fcac.Statement.{statement}
 use Rattle.registers.proofs.values.fcac.Tie as tie
 
 reduction-requires : tie.Need-reduction-requires
-reduction-requires c κs = search needs
+reduction-requires c κs = tt
 
 compensated-requires : tie.Need-compensated-requires
-compensated-requires c κs = search needs
+compensated-requires c κs = tt
 
 returns : tie.Need-returns
-unfolding fcac
-returns c = cc
+returns c =
+    let p = c .before in
+    fcac-is (p .before .args .gauge) (p .reduction .ensures) (c .compensated .ensures)
 
 pub fcac-spec : {M : Type 1} → statement M
 fcac-spec = tie.close (tie.spec reduction-requires compensated-requires returns)

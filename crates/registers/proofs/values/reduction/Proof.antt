@@ -1,18 +1,18 @@
--- The result is what the calls ensure, put together. Assumes nothing.
-use borrow.Author.Needs.{needs}
-use Rattle.registers.specs.Values.{reduction}
+-- DCMP at the discharge. Assumes nothing.
+use Rattle.registers.proofs.ValuesLaws.{reduction-is}
 use Rattle.registers.proofs.values.reduction.Statement.{statement}
 use Rattle.registers.proofs.values.reduction.Tie as tie
 
 discharge-requires : tie.Need-discharge-requires
-discharge-requires c κs = search needs
+discharge-requires c κs = tt
 
 dcmp-requires : tie.Need-dcmp-requires
-dcmp-requires c κs = search needs
+dcmp-requires c κs = tt
 
 returns : tie.Need-returns
-unfolding reduction
-returns c = cc
+returns c =
+    let p = c .before in
+    reduction-is (p .before .before .args .gauge) (p .discharge .ensures) (c .dcmp .ensures)
 
 pub reduction-spec : {M : Type 1} → statement M
 reduction-spec = tie.close (tie.spec discharge-requires dcmp-requires returns)

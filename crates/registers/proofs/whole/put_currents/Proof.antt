@@ -1,8 +1,6 @@
 -- The stores are the registers in the order of their addresses. Assumes nothing.
-use mathlib.Core.Path.{refl}
-use Rattle.registers.specs.Map.{lookUp, register, registersFrom, rows}
-use Rattle.registers.proofs.WholeLaws.{then-pair}
 use borrow.Author.Needs.{needs}
+use Rattle.registers.proofs.WholeLaws.{currents-stored}
 use Rattle.registers.proofs.whole.put_currents.Statement.{statement}
 use Rattle.registers.proofs.whole.put_currents.Tie as tie
 
@@ -10,13 +8,13 @@ put-pair-requires : tie.Need-put-pair-requires
 put-pair-requires c κs = search needs
 
 tte-requires : tie.Need-tte-requires
-tte-requires c κs = search needs
+tte-requires c κs = c .before .before .before .pre
 
 put-pair-requires-2 : tie.Need-put-pair-requires-2
 put-pair-requires-2 c κs = search needs
 
 ttf-requires : tie.Need-ttf-requires
-ttf-requires c κs = search needs
+ttf-requires c κs = let p = c .before .before .before in p .before .before .before .pre
 
 put-pair-requires-3 : tie.Need-put-pair-requires-3
 put-pair-requires-3 c κs = search needs
@@ -25,19 +23,26 @@ put-pair-requires-4 : tie.Need-put-pair-requires-4
 put-pair-requires-4 c κs = search needs
 
 stte-requires : tie.Need-stte-requires
-stte-requires c κs = search needs
+stte-requires c κs =
+    let p = c .before .before .before .before in
+    let q = p .before .before .before in
+    q .before .before .before .before .pre
 
 put-pair-requires-5 : tie.Need-put-pair-requires-5
 put-pair-requires-5 c κs = search needs
 
 returns : tie.Need-returns
-unfolding registersFrom register lookUp rows
 returns c =
-    let iav = c .before .before .before .before .before .before .before .before .before .before .before .put-pair .ensures in
-    let tte = then-pair 0x16 (c .before .before .before .before .before .before .before .before .put-pair2 .ensures) iav (c .before .before .before .before .before .before .before .before .before .tte .ensures) in
-    let ttf = then-pair 0x18 (c .before .before .before .before .before .put-pair3 .ensures) tte (c .before .before .before .before .before .before .ttf .ensures) in
-    let si = then-pair 0x1A (c .before .before .before .put-pair4 .ensures) ttf refl in
-    then-pair 0x1C (c .put-pair5 .ensures) si (c .before .stte .ensures)
+    let stte = c .before in
+    let si = stte .before .before in
+    let put3 = si .before .before in
+    let ttf = put3 .before in
+    let put2 = ttf .before .before in
+    let tte = put2 .before in
+    let iav = tte .before .before in
+    let a = iav .before .before .args in
+    currents-stored (a .gauge) (a .bytes .now) (iav .put-pair .ensures) (tte .tte .ensures) (put2 .put-pair2 .ensures)
+    (ttf .ttf .ensures) (put3 .put-pair3 .ensures) (si .put-pair4 .ensures) (stte .stte .ensures) (c .put-pair5 .ensures)
 
 pub put-currents-spec : {M : Type 1} → statement M
 put-currents-spec =

@@ -1,12 +1,13 @@
 -- The stores are the registers in the order of their addresses. Assumes nothing.
-use mathlib.Core.Path.{_≡_, ap, refl}
+use Prim.Native.Nat.{_<_}
 use native.Mathlib.Omega.{arith}
-use lib.ListN.{set}
-use Rattle.registers.specs.Map.{byteAt, lookUp, register, registersFrom, rows}
-use Rattle.registers.proofs.WholeLaws.{then-pair}
 use borrow.Author.Needs.{needs}
+use Rattle.registers.proofs.WholeLaws.{host-stored}
 use Rattle.registers.proofs.whole.put_host.Statement.{statement}
 use Rattle.registers.proofs.whole.put_host.Tie as tie
+
+mode-fits : (s : tie.Start) → s .args .gauge .host .mode < 256
+mode-fits s = omega arith
 
 element-write-bytes : tie.Need-element-write-bytes
 element-write-bytes c = search needs
@@ -15,7 +16,7 @@ put-pair-requires : tie.Need-put-pair-requires
 put-pair-requires c κs = search needs
 
 artte-requires : tie.Need-artte-requires
-artte-requires c κs = search needs
+artte-requires c κs = c .before .before .before .pre
 
 put-pair-requires-2 : tie.Need-put-pair-requires-2
 put-pair-requires-2 c κs = search needs
@@ -27,15 +28,14 @@ put-pair-requires-4 : tie.Need-put-pair-requires-4
 put-pair-requires-4 c κs = search needs
 
 returns : tie.Need-returns
-unfolding registersFrom register lookUp rows
 returns c =
-    let g = c .before .before .before .before .before .before .before .before .before .args .gauge in
-    let b = c .before .before .before .before .before .before .before .before .before .args .bytes .now in
-    let mode : g .host .mode ≡ byteAt (g .host .mode) 0 = omega arith in
-    let ar = then-pair 0x02 (c .before .before .before .before .before .before .before .put-pair .ensures) (ap (set b 0x01) mode) refl in
-    let artte = then-pair 0x04 (c .before .before .before .before .put-pair2 .ensures) ar (c .before .before .before .before .before .artte .ensures) in
-    let temperature = then-pair 0x06 (c .before .before .put-pair3 .ensures) artte refl in
-    then-pair 0x08 (c .put-pair4 .ensures) temperature refl
+    let p = c .before .before in
+    let q = p .before .before in
+    let r = q .before in
+    let t = r .before .before in
+    let s = t .before .before in
+    host-stored (s .args .gauge) (s .args .bytes .now) (mode-fits s) (t .put-pair .ensures) (r .artte .ensures) (q .put-pair2 .ensures) (p .put-pair3 .ensures)
+    (c .put-pair4 .ensures)
 
 pub put-host-spec : {M : Type 1} → statement M
 put-host-spec =

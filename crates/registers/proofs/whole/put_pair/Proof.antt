@@ -1,10 +1,6 @@
 -- The two bytes are those of the number, of which nothing is left. Assumes nothing.
-use Prim.Native.Nat.{ℕ, _+_, _/_, _%_}
-use mathlib.Core.Path.{_≡_, ap, _∙_}
-use native.Mathlib.Omega.{arith}
-use lib.ListN.{set}
-use Rattle.registers.specs.Map.{byteAt}
 use borrow.Author.Needs.{needs}
+use Rattle.registers.proofs.WholeLaws.{pair-stored}
 use Rattle.registers.proofs.whole.put_pair.Statement.{statement}
 use Rattle.registers.proofs.whole.put_pair.Tie as tie
 
@@ -24,12 +20,7 @@ element-write-bytes-2 : tie.Need-element-write-bytes-2
 element-write-bytes-2 c = search needs
 
 returns : tie.Need-returns
-returns c =
-    let a = c .args in
-    let low : a .pair % 256 ≡ byteAt (a .pair) 0 = omega arith in
-    let high : a .pair / 256 ≡ byteAt (a .pair) 1 = omega arith in
-    ap (λ (v : ℕ). set (set (a .bytes .now) (a .at) v) (a .at + 1) (a .pair / 256)) low
-    ∙ ap (set (set (a .bytes .now) (a .at) (byteAt (a .pair) 0)) (a .at + 1)) high
+returns c = let a = c .args in pair-stored (a .at) (a .pair) (a .bytes .now) (c .fits .pair .fits)
 
 pub put-pair-spec : {M : Type 1} → statement M
 put-pair-spec =

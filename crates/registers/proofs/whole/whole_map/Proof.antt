@@ -1,10 +1,13 @@
 -- Each group of registers is stored as its function ensures, over zeros and the configuration. Assumes nothing.
-use mathlib.Core.Path.{_≡_, _∙_}
+use mathlib.Core.Path.{_≡_}
 use lib.ListN.{length}
-use Rattle.registers.proofs.WholeLaws.{configuration-from, stored-of, then-pair, whole-of, zerosWith}
 use borrow.Author.Needs.{needs}
+use Rattle.registers.proofs.WholeLaws.{whole-stored}
 use Rattle.registers.proofs.whole.whole_map.Statement.{statement}
 use Rattle.registers.proofs.whole.whole_map.Tie as tie
+
+ten : (s : tie.Start) → length (s .args .gauge .configuration) ≡ 10
+ten s = search needs
 
 slice-aggregate-put-configuration : tie.Need-slice-aggregate-put-configuration
 slice-aggregate-put-configuration c = search needs
@@ -31,19 +34,22 @@ put-currents-requires : tie.Need-put-currents-requires
 put-currents-requires c κs = search needs
 
 e1-requires : tie.Need-e1-requires
-e1-requires c κs = search needs
+e1-requires c κs = tt
 
 put-pair-requires : tie.Need-put-pair-requires
 put-pair-requires c κs = search needs
 
 returns : tie.Need-returns
 returns c =
-    let g = c .before .before .before .before .before .before .before .before .before .before .before .before .before .before .args .gauge in
-    let p = c .before .before .before .before .before .before .before .before .before .before .put-configuration in
-    let ten : length (g .configuration) ≡ 10 = search needs in
-    let groups = stored-of g (zerosWith (p .last .1 .0)) (c .before .before .before .before .before .before .before .put-host .ensures) (c .before .before .before .before .before .put-capacities .ensures) (c .before .before .before .put-currents .ensures) in
-    let shown = p .ensures .0 ∙ configuration-from g ten (p .ensures .1) in
-    then-pair 0x20 (c .put-pair .ensures) groups (c .before .e1 .ensures) ∙ whole-of g _ shown
+    let capacities = c .before .before in
+    let host = capacities .before .before in
+    let cedv = host .before .before in
+    let e1 = cedv .before in
+    let put = e1 .before .before .before in
+    let s = put .before .before .before .before in
+    let p = put .put-configuration in
+    whole-stored (s .args .gauge) (p .last .1 .0) (ten s) (p .ensures .1) (p .ensures .0) (e1 .e1 .ensures) (cedv .put-pair .ensures)
+    (host .put-host .ensures) (capacities .put-capacities .ensures) (c .put-currents .ensures)
 
 pub whole-map-spec : {M : Type 1} → statement M
 whole-map-spec =
@@ -54,9 +60,9 @@ whole-map-spec =
     part-bytes-start
     part-bytes-end
     put-configuration-requires
+    e1-requires
+    put-pair-requires
     put-host-requires
     put-capacities-requires
     put-currents-requires
-    e1-requires
-    put-pair-requires
     returns)

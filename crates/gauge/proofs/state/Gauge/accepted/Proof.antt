@@ -1,10 +1,11 @@
 -- Each way returns what its tests pick. Assumes nothing.
-use mathlib.Core.Path.{_≡_, _∙_, sym}
-use native.Mathlib.Omega.{arith}
+use mathlib.Core.Path.{_≡_, ap, _∙_, sym}
+use Prim.Native.Nat.{ℕ}
 use borrow.Author.Tests.{eq-eqb, ne-eqb, not-true, not-false}
+use Rattle.sample.specs.Sample.{sampleAccepted}
+use Rattle.sample.specs.Standby.{standbyAccepted}
+use Rattle.gauge.proofs.AcceptedLaws.{no-capacity, no-charge, no-standby, last-test}
 use borrow.Author.Needs.{needs}
-use Rattle.gauge.specs.Accepted.{accepted}
-use Rattle.cell.specs.Configuration.{ilmd}
 use Rattle.gauge.proofs.state.Gauge.accepted.Statement.{statement}
 use Rattle.gauge.proofs.state.Gauge.accepted.Tie as tie
 
@@ -12,28 +13,55 @@ ilmd-requires : tie.Need-ilmd-requires
 ilmd-requires c κs = search needs
 
 returns : tie.Need-returns
-unfolding accepted
 returns c =
-    let h : ilmd (c .before .before .before .args .self .configuration) ≡ 0 = omega arith in
-    simp (eq-eqb _ _ h)
+    let p = c .before in
+    no-capacity (p .before .before .args .self) (eq-eqb _ _ (sym (p .ilmd .ensures) ∙ c .if1 .taken))
 
-charge-accepted-requires : tie.Need-charge-accepted-requires
-charge-accepted-requires c κs = search needs
+accepted-requires : tie.Need-accepted-requires
+accepted-requires c κs = search needs
 
 returns-2 : tie.Need-returns-2
-unfolding accepted
 returns-2 c =
-    let h : ilmd (c .before .before .before .before .before .args .self .configuration) ≡ 0 → ⊥ = λ e. omega arith in
-    simp (ne-eqb _ _ h, sym (c .before .charge-accepted .ensures) ∙ not-true _ (c .if2 .taken))
+    let p = c .before .before in
+    let q = p .before in
+    no-charge (q .before .before .args .self) (ne-eqb _ _ (λ e. p .if1 .left (q .ilmd .ensures ∙ e)))
+    (sym (c .before .accepted .ensures) ∙ not-true _ (c .if2 .taken))
 
-shown-accepted-requires : tie.Need-shown-accepted-requires
-shown-accepted-requires c κs = search needs
+s0-requires : tie.Need-s0-requires
+s0-requires c κs = search needs
+
+standby-accepted-requires : tie.Need-standby-accepted-requires
+standby-accepted-requires c κs = search needs
 
 returns-3 : tie.Need-returns-3
-unfolding accepted
 returns-3 c =
-    let h : ilmd (c .before .before .before .before .before .before .args .self .configuration) ≡ 0 → ⊥ = λ e. omega arith in
-    simp (ne-eqb _ _ h, sym (c .before .before .charge-accepted .ensures) ∙ not-false _ (c .before .if2 .left)) (c .shown-accepted .ensures)
+    let s = c .before in
+    let r = s .before .before in
+    let p = r .before .before in
+    let q = p .before in
+    let g = q .before .before .args .self in
+    no-standby g (ne-eqb _ _ (λ e. p .if1 .left (q .ilmd .ensures ∙ e)))
+    (sym (r .before .accepted .ensures) ∙ not-false _ (r .if2 .left))
+    (sym (s .standby-accepted .ensures ∙ ap (λ (n : ℕ). standbyAccepted n (g .standby)) (s .before .s0 .ensures)) ∙ not-true _ (c .if3 .taken))
+
+dmf-requires : tie.Need-dmf-requires
+dmf-requires c κs = search needs
+
+accepted-requires-2 : tie.Need-accepted-requires-2
+accepted-requires-2 c κs = search needs
+
+returns-4 : tie.Need-returns-4
+returns-4 c =
+    let u = c .before .before in
+    let s = u .before in
+    let r = s .before .before in
+    let p = r .before .before in
+    let q = p .before in
+    let g = q .before .before .args .self in
+    last-test g (ne-eqb _ _ (λ e. p .if1 .left (q .ilmd .ensures ∙ e)))
+    (sym (r .before .accepted .ensures) ∙ not-false _ (r .if2 .left))
+    (sym (s .standby-accepted .ensures ∙ ap (λ (n : ℕ). standbyAccepted n (g .standby)) (s .before .s0 .ensures)) ∙ not-false _ (u .if3 .left))
+    (c .accepted2 .ensures ∙ ap (λ (n : ℕ). sampleAccepted n (g .sample)) (c .before .dmf .ensures .0))
 
 pub accepted-spec : {M : Type 1} → statement M
 accepted-spec =
@@ -41,7 +69,11 @@ accepted-spec =
     (tie.spec
     ilmd-requires
     returns
-    charge-accepted-requires
+    accepted-requires
     returns-2
-    shown-accepted-requires
-    returns-3)
+    s0-requires
+    standby-accepted-requires
+    returns-3
+    dmf-requires
+    accepted-requires-2
+    returns-4)

@@ -1,11 +1,30 @@
--- The callees' results, put together. Assumes nothing.
-use borrow.Author.Needs.{needs}
+-- The parts, put together. Assumes nothing.
+use mathlib.Core.Bool.{Bool}
+use mathlib.Core.Path.{_≡_, ap, _∙_}
+use Prim.Native.Nat.{ℕ}
+use Rattle.command.specs.Command.{isReset}
+use Rattle.sample.specs.Sample.{sampleReset}
+use Rattle.sample.specs.Standby.{standbyReset}
 use Rattle.gauge.specs.Obey.{obeyed}
+use Rattle.gauge.proofs.GaugeLaws.{gauge-is}
+use borrow.Author.Needs.{needs}
 use Rattle.gauge.proofs.state.Gauge.obeyed.Statement.{statement}
 use Rattle.gauge.proofs.state.Gauge.obeyed.Tie as tie
 
+is-reset-requires : tie.Need-is-reset-requires
+is-reset-requires c κs = search needs
+
 obeyed-requires : tie.Need-obeyed-requires
 obeyed-requires c κs = search needs
+
+reset-if-requires : tie.Need-reset-if-requires
+reset-if-requires c κs = search needs
+
+s0-requires : tie.Need-s0-requires
+s0-requires c κs = search needs
+
+reset-if-requires-2 : tie.Need-reset-if-requires-2
+reset-if-requires-2 c κs = search needs
 
 obeyed-requires-2 : tie.Need-obeyed-requires-2
 obeyed-requires-2 c κs = search needs
@@ -13,14 +32,28 @@ obeyed-requires-2 c κs = search needs
 obeyed-requires-3 : tie.Need-obeyed-requires-3
 obeyed-requires-3 c κs = search needs
 
-cleared-requires : tie.Need-cleared-requires
-cleared-requires c κs = search needs
-
 returns : tie.Need-returns
 unfolding obeyed
-returns c = cc
+returns c =
+    let p = c .before .before in
+    let q = p .before .before in
+    let r = q .before .before in
+    let a = r .before .before .args in
+    let g = a .self in
+    gauge-is (q .before .obeyed .ensures) (q .reset-if .ensures ∙ ap (λ (t : Bool). sampleReset t (g .sample)) (r .is-reset .ensures))
+    (p .reset-if2 .ensures ∙ ap (λ (t : Bool). standbyReset t (p .before .s0 .result) (g .standby)) (r .is-reset .ensures)
+    ∙ ap (λ (n : ℕ). standbyReset (isReset (a .command)) n (g .standby)) (p .before .s0 .ensures))
+    (c .before .obeyed2 .ensures) (c .obeyed3 .ensures)
 
 pub obeyed-spec : {M : Type 1} → statement M
 obeyed-spec =
     tie.close
-    (tie.spec obeyed-requires obeyed-requires-2 obeyed-requires-3 cleared-requires returns)
+    (tie.spec
+    is-reset-requires
+    obeyed-requires
+    reset-if-requires
+    s0-requires
+    reset-if-requires-2
+    obeyed-requires-2
+    obeyed-requires-3
+    returns)

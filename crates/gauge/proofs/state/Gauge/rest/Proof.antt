@@ -1,46 +1,52 @@
 -- Each way answers what its tests pick, in the paper's order. Assumes nothing.
-use Prim.Native.Nat.{_≤_, _<_}
-use mathlib.Core.Bool.{true, false}
-use mathlib.Core.Path.{_≡_, _∙_, sym, ap}
+use mathlib.Core.Bool.{Bool, true, false}
+use mathlib.Core.Path.{_≡_, ap, _∙_, sym}
+use Prim.Native.Nat.{ℕ, _<_}
 use native.Mathlib.Omega.{arith}
-use borrow.Author.Tests.{lt-ltb, le-ltb, le-leb, lt-leb, not-true, not-false}
-use Rattle.gauge.specs.Calls.{restAnswer}
-use Rattle.cell.specs.Sample.{temperature, temperatureInRange}
-use Rattle.cell.proofs.SignedLaws.{narrow}
+use lib.Dec.{ltb}
+use borrow.Author.Tests.{not-true, not-false, le-leb, lt-leb, lt-ltb, le-ltb}
+use Rattle.numbers.proofs.SignedLaws.{narrow}
+use Rattle.sample.specs.Range.{temperature, temperatureInRange}
+use Rattle.gauge.specs.Rest.{rest}
+use Rattle.gauge.proofs.CallLaws.{rest-rejected, rest-none, rest-long, rest-temperature, rest-done}
 use borrow.Author.Needs.{needs}
 use Rattle.gauge.proofs.state.Gauge.rest.Statement.{statement}
 use Rattle.gauge.proofs.state.Gauge.rest.Tie as tie
-
-in-range-is : (c : tie.After-temperature-in-range) → c .temperature-in-range .result ≡ temperatureInRange (c .before .before .before .before .before .args .t)
-in-range-is c = c .temperature-in-range .ensures ∙ ap temperatureInRange (narrow _ (c .before .before .before .before .before .fits .t))
 
 accepted-requires : tie.Need-accepted-requires
 accepted-requires c κs = search needs
 
 returns : tie.Need-returns
-unfolding restAnswer
-returns c = simp (sym (c .before .accepted .ensures) ∙ not-true _ (c .if1 .taken))
+returns c =
+    let p = c .before in
+    let a = p .before .args in
+    rest-rejected (a .self) (a .windows) (a .t) (sym (p .accepted .ensures) ∙ not-true _ (c .if1 .taken))
 
 returns-2 : tie.Need-returns-2
-unfolding restAnswer
 returns-2 c =
-    let h : c .before .before .before .args .windows ≤ 0 = omega arith in
-    simp (sym (c .before .before .accepted .ensures) ∙ not-false _ (c .before .if1 .left), le-ltb _ _ h)
+    let p = c .before .before in
+    let a = p .before .args in
+    rest-none (a .self) (a .windows) (a .t) (sym (p .accepted .ensures) ∙ not-false _ (c .before .if1 .left)) (le-ltb 0 (a .windows) (omega arith))
 
 returns-3 : tie.Need-returns-3
-unfolding restAnswer
 returns-3 c =
-    let h : 0 < c .before .before .before .before .args .windows = omega arith in
-    simp (sym (c .before .before .before .accepted .ensures) ∙ not-false _ (c .before .before .if1 .left), lt-ltb _ _ h, lt-leb _ _ (c .if3 .taken))
+    let p = c .before .before .before in
+    let a = p .before .args in
+    rest-long (a .self) (a .windows) (a .t) (sym (p .accepted .ensures) ∙ not-false _ (c .before .before .if1 .left))
+    (lt-ltb 0 (a .windows) (omega arith)) (lt-leb _ _ (c .if3 .taken))
 
 temperature-in-range-requires : tie.Need-temperature-in-range-requires
 temperature-in-range-requires c κs = search needs
 
 returns-4 : tie.Need-returns-4
-unfolding restAnswer
 returns-4 c =
-    let h : 0 < c .before .before .before .before .before .before .args .windows = omega arith in
-    simp (sym (c .before .before .before .before .before .accepted .ensures) ∙ not-false _ (c .before .before .before .before .if1 .left), lt-ltb _ _ h, le-leb _ _ (c .before .before .if3 .left), sym (in-range-is (c .before)) ∙ not-true _ (c .if4 .taken))
+    let q = c .before in
+    let r = q .before in
+    let p = r .before .before .before in
+    let a = p .before .args in
+    rest-temperature (a .self) (a .windows) (a .t) (sym (p .accepted .ensures) ∙ not-false _ (r .before .before .if1 .left))
+    (lt-ltb 0 (a .windows) (omega arith)) (le-leb _ _ (r .if3 .left))
+    (sym (q .temperature-in-range .ensures ∙ ap temperatureInRange (narrow _ (p .before .fits .t))) ∙ not-true _ (c .if4 .taken))
 
 temperature-requires : tie.Need-temperature-requires
 temperature-requires c κs = search needs
@@ -49,11 +55,17 @@ rested-requires : tie.Need-rested-requires
 rested-requires c κs = search needs
 
 returns-5 : tie.Need-returns-5
-unfolding restAnswer
 returns-5 c =
-    let h : 0 < c .before .before .before .before .before .before .before .before .args .windows = omega arith in
-    let t = c .before .temperature .ensures ∙ ap temperature (narrow _ (c .before .before .before .before .before .before .before .before .fits .t)) in
-    simp (sym (c .before .before .before .before .before .before .before .accepted .ensures) ∙ not-false _ (c .before .before .before .before .before .before .if1 .left), lt-ltb _ _ h, le-leb _ _ (c .before .before .before .before .if3 .left), sym (in-range-is (c .before .before .before)) ∙ not-false _ (c .before .before .if4 .left)) (cc)
+    let s = c .before .before in
+    let q = s .before in
+    let r = q .before in
+    let p = r .before .before .before in
+    let a = p .before .args in
+    let t = c .before .temperature .ensures ∙ ap temperature (narrow _ (p .before .fits .t)) in
+    rest-done (a .self) (a .windows) (a .t) (sym (p .accepted .ensures) ∙ not-false _ (r .before .before .if1 .left))
+    (lt-ltb 0 (a .windows) (omega arith)) (le-leb _ _ (r .if3 .left))
+    (sym (q .temperature-in-range .ensures ∙ ap temperatureInRange (narrow _ (p .before .fits .t))) ∙ not-false _ (s .if4 .left))
+    (c .rested .ensures ∙ ap (λ (n : ℕ). rest (a .windows) n (a .self)) t)
 
 pub rest-spec : {M : Type 1} → statement M
 rest-spec =

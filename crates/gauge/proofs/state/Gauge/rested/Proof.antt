@@ -1,6 +1,11 @@
--- The callees' results, put together. Assumes nothing.
-use borrow.Author.Needs.{needs}
+-- The parts, put together. Assumes nothing.
+use mathlib.Core.Path.{_≡_, refl, ap, _∙_}
+use Prim.Native.Nat.{ℕ}
+use Rattle.charge.specs.Rest.{rested}
+use Rattle.grains.specs.Leak.{leakRate}
 use Rattle.gauge.specs.Rest.{rest}
+use Rattle.gauge.proofs.GaugeLaws.{gauge-is}
+use borrow.Author.Needs.{needs}
 use Rattle.gauge.proofs.state.Gauge.rested.Statement.{statement}
 use Rattle.gauge.proofs.state.Gauge.rested.Tie as tie
 
@@ -18,7 +23,12 @@ rested-requires-2 c κs = search needs
 
 returns : tie.Need-returns
 unfolding rest
-returns c = cc
+returns c =
+    let p = c .before in
+    let q = p .before in
+    let a = q .before .before .before .args in
+    let rate = q .leak-rate .ensures ∙ ap (λ (n : ℕ). leakRate n (a .temperature)) (q .before .sd .ensures .0) in
+    gauge-is (p .rested .ensures ∙ ap (λ (n : ℕ). rested (a .windows) n (a .self .charge)) rate) (c .rested2 .ensures) refl refl refl
 
 pub rested-spec : {M : Type 1} → statement M
 rested-spec =

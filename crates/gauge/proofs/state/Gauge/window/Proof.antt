@@ -1,61 +1,69 @@
 -- Each way answers what its tests pick, in the paper's order. Assumes nothing.
+use mathlib.Core.Bool.{Bool, true, false}
+use mathlib.Core.Path.{_≡_, ap, _∙_, sym}
 use Prim.Native.Nat.{ℕ}
-use mathlib.Core.Bool.{true, false}
-use mathlib.Core.Path.{_≡_, _∙_, sym, ap}
 use borrow.Author.Tests.{not-true, not-false}
-use Rattle.gauge.specs.Calls.{sampleRefusal, unlessRejected, windowAnswer}
-use Rattle.gauge.specs.Answer.{answered}
+use Rattle.configuration.specs.Configuration.{dmf}
+use Rattle.numbers.proofs.SignedLaws.{narrow}
+use Rattle.sample.specs.Current.{counted}
+use Rattle.sample.specs.Range.{current, currentInRange, temperature, temperatureInRange, voltage, voltageInRange}
+use Rattle.sample.specs.declared.current.Current.{Current}
 use Rattle.gauge.specs.Window.{window}
-use Rattle.gauge.specs.declared.answer.Answer.{Answer}
-use Rattle.gauge.specs.declared.state.Gauge.{Gauge}
-use Rattle.cell.specs.Configuration.{dmf}
-use Rattle.cell.specs.Current.{counted}
-use Rattle.cell.specs.declared.current.Current.{Current}
-use Rattle.cell.specs.Sample.{current, currentInRange, temperature, temperatureInRange, voltage, voltageInRange}
-use Rattle.cell.proofs.SignedLaws.{narrow}
+use Rattle.gauge.proofs.CallLaws.{window-rejected, window-current, window-voltage, window-temperature, window-done}
 use borrow.Author.Needs.{needs}
 use Rattle.gauge.proofs.state.Gauge.window.Statement.{statement}
 use Rattle.gauge.proofs.state.Gauge.window.Tie as tie
-
-a-is : (c : tie.After-current-in-range) → c .current-in-range .result ≡ currentInRange (c .before .before .before .args .a)
-a-is c = c .current-in-range .ensures ∙ ap currentInRange (narrow _ (c .before .before .before .fits .a))
-
-v-is : (c : tie.After-voltage-in-range) → c .voltage-in-range .result ≡ voltageInRange (c .before .before .before .before .before .args .v)
-v-is c = c .voltage-in-range .ensures ∙ ap voltageInRange (narrow _ (c .before .before .before .before .before .fits .v))
-
-t-is : (c : tie.After-temperature-in-range) → c .temperature-in-range .result ≡ temperatureInRange (c .before .before .before .before .before .before .before .args .t)
-t-is c = c .temperature-in-range .ensures ∙ ap temperatureInRange (narrow _ (c .before .before .before .before .before .before .before .fits .t))
-
-done-answer : (n : ℕ) (before next following : Gauge) → n ≡ 0 → next ≡ following → _≡_ {A = Answer} (record { number = 0; gauge = next }) (answered n before following)
-done-answer n before next following z e = simp z (ap (λ (g : Gauge). record { number = 0; gauge = g }) e)
 
 accepted-requires : tie.Need-accepted-requires
 accepted-requires c κs = search needs
 
 returns : tie.Need-returns
-unfolding windowAnswer
-returns c = simp (sym (c .before .accepted .ensures) ∙ not-true _ (c .if1 .taken))
+returns c =
+    let p = c .before in
+    let a = p .before .args in
+    window-rejected (a .self) (a .a) (a .v) (a .t) (sym (p .accepted .ensures) ∙ not-true _ (c .if1 .taken))
 
 current-in-range-requires : tie.Need-current-in-range-requires
 current-in-range-requires c κs = search needs
 
 returns-2 : tie.Need-returns-2
-unfolding windowAnswer
-returns-2 c = simp (sym (c .before .before .before .accepted .ensures) ∙ not-false _ (c .before .before .if1 .left), sym (a-is (c .before)) ∙ not-true _ (c .if2 .taken))
+returns-2 c =
+    let q = c .before in
+    let p = q .before .before in
+    let o = p .before in
+    let a = o .args in
+    window-current (a .self) (a .a) (a .v) (a .t) (sym (p .accepted .ensures) ∙ not-false _ (q .before .if1 .left))
+    (sym (q .current-in-range .ensures ∙ ap currentInRange (narrow _ (o .fits .a))) ∙ not-true _ (c .if2 .taken))
 
 voltage-in-range-requires : tie.Need-voltage-in-range-requires
 voltage-in-range-requires c κs = search needs
 
 returns-3 : tie.Need-returns-3
-unfolding windowAnswer
-returns-3 c = simp (sym (c .before .before .before .before .before .accepted .ensures) ∙ not-false _ (c .before .before .before .before .if1 .left), sym (a-is (c .before .before .before)) ∙ not-false _ (c .before .before .if2 .left), sym (v-is (c .before)) ∙ not-true _ (c .if3 .taken))
+returns-3 c =
+    let r = c .before in
+    let q = r .before .before in
+    let p = q .before .before in
+    let o = p .before in
+    let a = o .args in
+    window-voltage (a .self) (a .a) (a .v) (a .t) (sym (p .accepted .ensures) ∙ not-false _ (q .before .if1 .left))
+    (sym (q .current-in-range .ensures ∙ ap currentInRange (narrow _ (o .fits .a))) ∙ not-false _ (r .before .if2 .left))
+    (sym (r .voltage-in-range .ensures ∙ ap voltageInRange (narrow _ (o .fits .v))) ∙ not-true _ (c .if3 .taken))
 
 temperature-in-range-requires : tie.Need-temperature-in-range-requires
 temperature-in-range-requires c κs = search needs
 
 returns-4 : tie.Need-returns-4
-unfolding windowAnswer
-returns-4 c = simp (sym (c .before .before .before .before .before .before .before .accepted .ensures) ∙ not-false _ (c .before .before .before .before .before .before .if1 .left), sym (a-is (c .before .before .before .before .before)) ∙ not-false _ (c .before .before .before .before .if2 .left), sym (v-is (c .before .before .before)) ∙ not-false _ (c .before .before .if3 .left), sym (t-is (c .before)) ∙ not-true _ (c .if4 .taken))
+returns-4 c =
+    let s = c .before in
+    let r = s .before .before in
+    let q = r .before .before in
+    let p = q .before .before in
+    let o = p .before in
+    let a = o .args in
+    window-temperature (a .self) (a .a) (a .v) (a .t) (sym (p .accepted .ensures) ∙ not-false _ (q .before .if1 .left))
+    (sym (q .current-in-range .ensures ∙ ap currentInRange (narrow _ (o .fits .a))) ∙ not-false _ (r .before .if2 .left))
+    (sym (r .voltage-in-range .ensures ∙ ap voltageInRange (narrow _ (o .fits .v))) ∙ not-false _ (s .before .if3 .left))
+    (sym (s .temperature-in-range .ensures ∙ ap temperatureInRange (narrow _ (o .fits .t))) ∙ not-true _ (c .if4 .taken))
 
 current-requires : tie.Need-current-requires
 current-requires c κs = search needs
@@ -76,19 +84,33 @@ stepped-requires : tie.Need-stepped-requires
 stepped-requires c κs = search needs
 
 returns-5 : tie.Need-returns-5
-unfolding windowAnswer
 returns-5 c =
-    let a = c .before .before .before .before .before .current .ensures ∙ ap current (narrow _ (c .before .before .before .before .before .before .before .before .before .before .before .before .before .before .before .fits .a)) in
-    let v = c .before .before .voltage .ensures ∙ ap voltage (narrow _ (c .before .before .before .before .before .before .before .before .before .before .before .before .before .before .before .fits .v)) in
-    let t = c .before .temperature .ensures ∙ ap temperature (narrow _ (c .before .before .before .before .before .before .before .before .before .before .before .before .before .before .before .fits .t)) in
-    let i = c .before .before .before .counted .ensures ∙ ap (λ (d : ℕ). counted d (c .before .before .before .before .before .current .result)) (c .before .before .before .before .dmf .ensures .0) ∙ ap (counted (dmf (c .before .before .before .before .before .before .before .before .before .before .before .before .before .before .before .args .self .configuration))) a in
-    let w = c .stepped .ensures
-    ∙ ap (λ (x : Current). window x (c .before .before .voltage .result) (c .before .temperature .result) (c .before .before .before .before .before .before .before .before .before .before .before .before .before .before .before .args .self)) i
-    ∙ ap (λ (x : ℕ). window (counted (dmf (c .before .before .before .before .before .before .before .before .before .before .before .before .before .before .before .args .self .configuration)) (current (c .before .before .before .before .before .before .before .before .before .before .before .before .before .before .before .args .a))) x (c .before .temperature .result) (c .before .before .before .before .before .before .before .before .before .before .before .before .before .before .before .args .self)) v
-    ∙ ap (λ (x : ℕ). window (counted (dmf (c .before .before .before .before .before .before .before .before .before .before .before .before .before .before .before .args .self .configuration)) (current (c .before .before .before .before .before .before .before .before .before .before .before .before .before .before .before .args .a))) (voltage (c .before .before .before .before .before .before .before .before .before .before .before .before .before .before .before .args .v)) x (c .before .before .before .before .before .before .before .before .before .before .before .before .before .before .before .args .self)) t in
-    let z : unlessRejected (c .before .before .before .before .before .before .before .before .before .before .before .before .before .before .before .args .self) (sampleRefusal (c .before .before .before .before .before .before .before .before .before .before .before .before .before .before .before .args .a) (c .before .before .before .before .before .before .before .before .before .before .before .before .before .before .before .args .v) (c .before .before .before .before .before .before .before .before .before .before .before .before .before .before .before .args .t)) ≡ 0 =
-    simp (sym (c .before .before .before .before .before .before .before .before .before .before .before .before .before .before .accepted .ensures) ∙ not-false _ (c .before .before .before .before .before .before .before .before .before .before .before .before .before .if1 .left), sym (a-is (c .before .before .before .before .before .before .before .before .before .before .before .before)) ∙ not-false _ (c .before .before .before .before .before .before .before .before .before .before .before .if2 .left), sym (v-is (c .before .before .before .before .before .before .before .before .before .before)) ∙ not-false _ (c .before .before .before .before .before .before .before .before .before .if3 .left), sym (t-is (c .before .before .before .before .before .before .before .before)) ∙ not-false _ (c .before .before .before .before .before .before .before .if4 .left)) in
-    done-answer _ _ _ _ z w
+    let w1 = c .before in
+    let w2 = w1 .before in
+    let w3 = w2 .before in
+    let w4 = w3 .before in
+    let w5 = w4 .before in
+    let u = w5 .before .before in
+    let s = u .before in
+    let r = s .before .before in
+    let q = r .before .before in
+    let p = q .before .before in
+    let o = p .before in
+    let a = o .args in
+    let g = a .self in
+    let i : w3 .counted .result ≡ counted (dmf (g .configuration)) (current (a .a)) =
+    w3 .counted .ensures ∙ ap (λ (d : ℕ). counted d (w5 .current .result)) (w4 .dmf .ensures .0)
+    ∙ ap (counted (dmf (g .configuration))) (w5 .current .ensures ∙ ap current (narrow _ (o .fits .a))) in
+    let e = c .stepped .ensures ∙ ap (λ (x : Current). window x (w2 .voltage .result) (w1 .temperature .result) g) i
+    ∙ ap (λ (x : ℕ). window (counted (dmf (g .configuration)) (current (a .a))) x (w1 .temperature .result) g)
+    (w2 .voltage .ensures ∙ ap voltage (narrow _ (o .fits .v)))
+    ∙ ap (λ (x : ℕ). window (counted (dmf (g .configuration)) (current (a .a))) (voltage (a .v)) x g)
+    (w1 .temperature .ensures ∙ ap temperature (narrow _ (o .fits .t))) in
+    window-done g (a .a) (a .v) (a .t) (sym (p .accepted .ensures) ∙ not-false _ (q .before .if1 .left))
+    (sym (q .current-in-range .ensures ∙ ap currentInRange (narrow _ (o .fits .a))) ∙ not-false _ (r .before .if2 .left))
+    (sym (r .voltage-in-range .ensures ∙ ap voltageInRange (narrow _ (o .fits .v))) ∙ not-false _ (s .before .if3 .left))
+    (sym (s .temperature-in-range .ensures ∙ ap temperatureInRange (narrow _ (o .fits .t))) ∙ not-false _ (u .if4 .left))
+    e
 
 pub window-spec : {M : Type 1} → statement M
 window-spec =

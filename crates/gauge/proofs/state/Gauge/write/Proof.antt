@@ -1,8 +1,10 @@
 -- Each way answers what its tests pick, in the paper's order. Assumes nothing.
-use mathlib.Core.Path.{_≡_, _∙_, sym, ap}
-use borrow.Author.Tests.{eq-eqb, ne-eqb, lt-ltb, le-ltb, not-true, not-false}
+use mathlib.Core.Path.{_≡_, refl, ap, _∙_, sym}
+use borrow.Author.Tests.{not-true, not-false, lt-ltb, le-ltb, eq-eqb, ne-eqb}
+use Rattle.gauge.specs.Calls.{storedAt}
+use Rattle.gauge.proofs.CallLaws.{write-rejected, write-beyond, write-key, write-stored}
+use Rattle.gauge.proofs.GaugeLaws.{gauge-is}
 use borrow.Author.Needs.{needs}
-use Rattle.gauge.specs.Calls.{keyAnswer, storedAt, written, writeRefusal, writeAnswer}
 use Rattle.gauge.proofs.state.Gauge.write.Statement.{statement}
 use Rattle.gauge.proofs.state.Gauge.write.Tie as tie
 
@@ -10,26 +12,39 @@ accepted-requires : tie.Need-accepted-requires
 accepted-requires c κs = search needs
 
 returns : tie.Need-returns
-unfolding writeAnswer
-returns c = simp (sym (c .before .accepted .ensures) ∙ not-true _ (c .if1 .taken))
+returns c =
+    let p = c .before in
+    let a = p .before .args in
+    write-rejected (a .self) (a .address) (a .value) (sym (p .accepted .ensures) ∙ not-true _ (c .if1 .taken))
 
 returns-2 : tie.Need-returns-2
-unfolding writeRefusal writeAnswer
-returns-2 c = simp (sym (c .before .before .accepted .ensures) ∙ not-false _ (c .before .if1 .left), lt-ltb _ _ (c .if2 .taken))
+returns-2 c =
+    let p = c .before .before in
+    let a = p .before .args in
+    write-beyond (a .self) (a .address) (a .value) (sym (p .accepted .ensures) ∙ not-false _ (c .before .if1 .left)) (lt-ltb _ _ (c .if2 .taken))
 
 keyed-requires : tie.Need-keyed-requires
 keyed-requires c κs = search needs
 
 returns-3 : tie.Need-returns-3
-unfolding keyAnswer written writeRefusal writeAnswer
-returns-3 c = simp (sym (c .before .before .before .before .accepted .ensures) ∙ not-false _ (c .before .before .before .if1 .left), le-ltb _ _ (c .before .before .if2 .left), eq-eqb _ _ (c .before .if3 .taken)) (c .keyed .ensures)
+returns-3 c =
+    let q = c .before .before in
+    let p = q .before .before in
+    let a = p .before .args in
+    write-key (a .self) (a .address) (a .value) (sym (p .accepted .ensures) ∙ not-false _ (q .before .if1 .left)) (le-ltb _ _ (q .if2 .left))
+    (eq-eqb _ _ (c .before .if3 .taken)) (c .keyed .ensures)
 
 stored-requires : tie.Need-stored-requires
 stored-requires c κs = search needs
 
 returns-4 : tie.Need-returns-4
-unfolding storedAt written writeRefusal writeAnswer
-returns-4 c = simp (sym (c .before .before .before .before .before .before .before .accepted .ensures) ∙ not-false _ (c .before .before .before .before .before .before .if1 .left), le-ltb _ _ (c .before .before .before .before .before .if2 .left), ne-eqb _ _ (c .before .before .before .before .if3 .left), c .stored .ensures)
+unfolding storedAt
+returns-4 c =
+    let q = c .before .before in
+    let p = q .before .before in
+    let a = p .before .args in
+    write-stored (a .self) (a .address) (a .value) (sym (p .accepted .ensures) ∙ not-false _ (q .before .if1 .left)) (le-ltb _ _ (q .if2 .left))
+    (ne-eqb _ _ (c .before .if3 .left)) (gauge-is refl refl refl refl (c .stored .ensures))
 
 pub write-spec : {M : Type 1} → statement M
 write-spec =

@@ -1,0 +1,3 @@
+pub mod Charge
+pub mod Obeyed
+pub mod Rest

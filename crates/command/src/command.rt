@@ -1,0 +1,99 @@
+// "Keys at CTRL obey the highest numbered set bit of MODE among 5, 4, 3, 1, 0".
+ghost use mathlib.Core.Path.{_≡_};
+ghost use Rattle.command.specs.Command as Spec;
+use refusals::NO_COMMAND_BIT;
+use refusals::NOT_CARRIED;
+use refusals::UNKNOWN_KEY;
+use refusals::WRTLMD_ZERO;
+
+pub enum Command {
+    Wrtnac,
+    Done,
+    Prst,
+    Frst,
+    Wrtlmd,
+}
+
+// What a key at CTRL means with MODE and AR: a command, or the number of its refusal.
+pub enum Decision {
+    Obey(Command),
+    Refused(u32),
+}
+
+// Bits 5, 4, 3, 1 and 0 of MODE.
+const COMMAND_BITS: u8 = 0x3B;
+
+// No command bit is set.
+const NO_BIT: u32 = 8;
+
+// The number of the highest command bit that is set.
+pub fn highest_command_bit(mode: u8) -> u32
+    ensures { λ r. ⌜ r ≡ Spec.highestCommandBit mode ⌝ }
+{
+    let bits = COMMAND_BITS & mode;
+    if bits == 0 {
+        return NO_BIT;
+    }
+    31 - u32::leading_zeros(bits as u32)
+}
+
+fn decide_a9(bit: u32) -> Decision
+    ensures { λ r. ⌜ r ≡ Spec.decideA9 bit ⌝ }
+{
+    if bit == 5 {
+        return Decision::Obey(Command::Wrtnac);
+    }
+    if bit == 4 {
+        return Decision::Obey(Command::Done);
+    }
+    if bit == 3 {
+        return Decision::Obey(Command::Prst);
+    }
+    if bit == 1 {
+        return Decision::Obey(Command::Frst);
+    }
+    if bit == 0 {
+        return Decision::Refused(NOT_CARRIED);
+    }
+    Decision::Refused(NO_COMMAND_BIT)
+}
+
+fn decide_56(ar: u16, bit: u32) -> Decision
+    ensures { λ r. ⌜ r ≡ Spec.decide56 ar bit ⌝ }
+{
+    if bit == 0 {
+        if ar == 0 {
+            return Decision::Refused(WRTLMD_ZERO);
+        }
+        return Decision::Obey(Command::Wrtlmd);
+    }
+    if bit == NO_BIT {
+        return Decision::Refused(NO_COMMAND_BIT);
+    }
+    Decision::Refused(NOT_CARRIED)
+}
+
+pub fn decide(key: u8, mode: u8, ar: u16) -> Decision
+    ensures { λ r. ⌜ r ≡ Spec.decide key mode ar ⌝ }
+{
+    if key == 0xA9 {
+        return decide_a9(highest_command_bit(mode));
+    }
+    if key == 0x56 {
+        return decide_56(ar, highest_command_bit(mode));
+    }
+    Decision::Refused(UNKNOWN_KEY)
+}
+
+// PRST and FRST put the gauge as opened, in part or whole.
+pub fn is_reset(command: Command) -> bool
+    ensures { λ r. ⌜ r ≡ Spec.isReset command ⌝ }
+{
+    match command {
+        Command::Wrtnac => false,
+        Command::Done => false,
+        Command::Prst => true,
+        Command::Frst => true,
+        Command::Wrtlmd => false,
+    }
+}

@@ -1,0 +1,76 @@
+// "Registers", the compensation and the times. Callers know DCMP by its name and its laws.
+ghost use mathlib.Core.Path.{_≡_};
+ghost use Prim.Native.Nat.{_*_, _≤_};
+ghost use Rattle.compensation.specs.Compensation as Spec;
+use configuration::configuration::Configuration;
+use configuration::configuration::cold_threshold;
+use configuration::configuration::dcgn;
+use configuration::configuration::dcoff;
+use configuration::configuration::ilmd;
+use configuration::configuration::tcgn;
+
+// How far the temperature lies below the threshold, 0 where none was measured.
+pub fn dt(configuration: Configuration, temperature: u16) -> u16
+    ensures { λ r. ⌜ r ≡ Spec.dt configuration temperature ⌝ }
+    ensures range { λ r. ⌜ r ≤ 1_120 ⌝ }
+{
+    if temperature == 0 {
+        return 0;
+    }
+    let threshold = cold_threshold(configuration);
+    if threshold < temperature {
+        return 0;
+    }
+    threshold - temperature
+}
+
+fn rate_term(configuration: Configuration, current: u16, temperature: u16) -> u64
+    ensures { λ r. ⌜ r ≡ Spec.rateTerm configuration current temperature ⌝ }
+    ensures range { λ r. ⌜ r ≤ 65_535 * 31 * 34_848 ⌝ }
+{
+    let gain = dcgn(configuration) as u64;
+    let cold = tcgn(configuration) as u64 * dt(configuration, temperature) as u64;
+    current as u64 * gain * (128 + cold)
+}
+
+fn offset_term(configuration: Configuration) -> u64
+    ensures { λ r. ⌜ r ≡ Spec.offsetTerm configuration ⌝ }
+{
+    4_096 * dcgn(configuration) as u64 * dcoff(configuration) as u64 * ilmd(configuration) as u64
+}
+
+// DCMP, counts.
+pub fn dcmp(configuration: Configuration, current: u16, temperature: u16) -> u32
+    ensures { λ r. ⌜ r ≡ Spec.dcmp configuration current temperature ⌝ }
+{
+    let rate = rate_term(configuration, current, temperature);
+    let offset = offset_term(configuration);
+    if rate < offset {
+        return 0;
+    }
+    ((rate - offset + 32_767) / 32_768) as u32
+}
+
+// A capacity less its compensation, at least 0.
+pub fn compensated(capacity: u16, reduction: u32) -> u16
+    ensures { λ r. ⌜ r ≡ Spec.compensated capacity reduction ⌝ }
+{
+    if (capacity as u32) < reduction {
+        return 0;
+    }
+    (capacity as u32 - reduction) as u16
+}
+
+// The floored, capped quotient that every time register is.
+pub fn minutes(numerator: u32, divisor: u16) -> u16
+    ensures { λ r. ⌜ r ≡ Spec.minutes numerator divisor ⌝ }
+{
+    if divisor == 0 {
+        return 65_535;
+    }
+    let quotient = numerator / divisor as u32;
+    if 65_535 < quotient {
+        return 65_535;
+    }
+    quotient as u16
+}

@@ -1,0 +1,3 @@
+pub mod BenchPack
+pub mod Configuration
+pub mod Terms

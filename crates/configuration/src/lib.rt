@@ -1,0 +1,2 @@
+// What the ten configuration bytes mean.
+pub mod configuration;

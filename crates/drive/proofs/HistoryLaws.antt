@@ -1,0 +1,51 @@
+-- The bytes that a list of calls leaves are those of a gauge that agrees with the history, and each field read back from them is the
+-- gauge's. Assumes nothing.
+use mathlib.Core.List.{List}
+use mathlib.Core.Path.{_≡_, refl, sym, ap, _∙_}
+use Prim.Native.Nat.{ℕ}
+use lib.IntN.{pos}
+use lib.ListN.{length}
+use Rattle.charge.specs.declared.charge.Charge.{Charge}
+use Rattle.gauge.specs.Opening.{opened}
+use Rattle.gauge.specs.declared.state.Gauge.{Gauge}
+use Rattle.history.specs.After.{after}
+use Rattle.history.specs.Call.{Call}
+use Rattle.history.specs.Claim.{Agrees, Taken, begun}
+use Rattle.history.specs.History.{History, afterCalls}
+use Rattle.history.proofs.ListLaws.{from-any-gauge, opened-begun, opened-taken}
+use Rattle.saved.specs.Form.{newest}
+use Rattle.saved.specs.Load.{loaded, loadedCharge}
+use Rattle.saved.specs.Save.{savedBytes}
+use Rattle.drive.specs.Claim.{FromOpening, FromSaved, HoldsHistory}
+use Rattle.drive.specs.Drive.{bytesAfter}
+use Rattle.drive.proofs.DriveLaws.{list-bytes, list-taken, loads, opened-bytes, opens, step-numbers}
+use Rattle.drive.proofs.SavedLaws.{is-loadable, load-answer, load-taken, loaded-is, same-bytes}
+
+charge-back : (g : Gauge) → Taken g → loadedCharge newest (savedBytes g) ≡ g .charge
+unfolding loaded
+charge-back g k = ap (λ (x : Gauge). x .charge) (loaded-is (savedBytes g) g (loads g k))
+
+gauge-holds : (g : Gauge) (x : History) → Taken g → Agrees g x → HoldsHistory (savedBytes g) x
+unfolding loadedCharge
+gauge-holds g x k a =
+    let c = charge-back g k in
+    record {
+      held = ap (λ (y : Charge). pos (y .held)) c ∙ a .held;
+      lmd = ap (λ (y : Charge). y .lmd) c ∙ a .lmd;
+      run = ap (λ (y : Charge). y .run) c ∙ a .run;
+      numbers = λ call. step-numbers g k call ∙ a .refused call;
+    }
+
+list-holds : (calls : List Call) (g : Gauge) → Taken g → HoldsHistory (bytesAfter calls (savedBytes g)) (afterCalls calls (begun g))
+list-holds calls g k =
+    rw (list-bytes calls g k) (gauge-holds (after calls g) (afterCalls calls (begun g)) (list-taken calls g k) (from-any-gauge g k calls))
+
+pub from-opening : FromOpening
+from-opening c buffer bytes e calls =
+    rw (opened-bytes c buffer e, opened-begun c) (list-holds calls (opened c) (opened-taken c bytes (opens c (length buffer) e)))
+
+pub from-saved : FromSaved
+from-saved s small e calls =
+    let l = is-loadable s e in
+    let h = list-holds calls (loaded newest s) (load-taken s small l) in
+    rw (load-answer s small l) (rw (same-bytes s small l) at h)

@@ -1,0 +1,65 @@
+-- Demand 3 said of the saved bytes and the calls from C: from opening, and from any bytes that are accepted. Definitions only; assumes
+-- nothing.
+use mathlib.Core.List.{List}
+use mathlib.Core.Path.{_≡_}
+use Prim.Native.Nat.{ℕ, _<_}
+use lib.IntN.{pos}
+use lib.ListN.{getD, length}
+use Rattle.gauge.specs.Opening.{openAnswer}
+use Rattle.gauge.specs.declared.state.Gauge.{Gauge}
+use Rattle.grains.specs.declared.run.Run.{Run}
+use Rattle.flags.specs.Byte.{vdqOf}
+use Rattle.handset.specs.Calls.{openBytes, openNumber}
+use Rattle.history.specs.After as Gauges
+use Rattle.history.specs.Call.{Call}
+use Rattle.history.specs.Claim.{begun, runOf}
+use Rattle.history.specs.History.{History, afterCalls, openedHistory}
+use Rattle.history.specs.Refused.{refusalOf}
+use Rattle.history.specs.Sums.{chargeOf}
+use Rattle.refusals.specs.Refusal as Refusal
+use Rattle.saved.specs.Form.{Dcr, Flags, Held, Lmd, newest, numberOf}
+use Rattle.saved.specs.Load.{loadAnswer, loadRefusal}
+use Rattle.saved.specs.Save.{savedBytes}
+use Rattle.drive.specs.Drive.{bytesAfter, calledNumber}
+
+-- ---- the bytes and a gauge
+
+-- the bytes are those of the gauge, and every call yields the number that it yields on the gauge
+pub record Holds (saved : List ℕ) (g : Gauge) : Type 0 where
+  pub bytes : saved ≡ savedBytes g
+  pub numbers : (call : Call) → calledNumber call saved ≡ Gauges.numberOf call g
+
+-- for every configuration and buffer that opening accepts and every list of calls
+abbrev pub EveryDrive : Type 0
+EveryDrive =
+    (configuration buffer : List ℕ) → ((k : ℕ) → getD configuration k 0 < 256) → openNumber configuration (length buffer) ≡ Refusal.none
+    → (calls : List Call) → Holds (bytesAfter calls (openBytes configuration buffer)) (Gauges.after calls ((openAnswer configuration) .gauge))
+
+-- ---- the bytes and the history
+
+-- VDQ and DCR as they stand in the bytes
+abbrev pub runAt : List ℕ → Run
+runAt saved = record { vdq = vdqOf (numberOf Flags newest saved); dcr = numberOf Dcr newest saved }
+
+pub record HoldsHistory (saved : List ℕ) (x : History) : Type 0 where
+  -- "h equals H"
+  pub held : pos (numberOf Held newest saved) ≡ chargeOf (x .account .sums)
+  -- "LMD equals L"
+  pub lmd : numberOf Lmd newest saved ≡ x .account .learned
+  -- "VDQ is set exactly during a run, and DCR equals R, 0 without a run"
+  pub run : runAt saved ≡ runOf (x .account .run)
+  -- "A call is refused exactly where the numbers below say so"; none of them is 14
+  pub numbers : (call : Call) → calledNumber call saved ≡ refusalOf call (x .host)
+
+-- demand 3 from C: opening, then every list of calls
+abbrev pub FromOpening : Type 0
+FromOpening =
+    (configuration buffer : List ℕ) → ((k : ℕ) → getD configuration k 0 < 256) → openNumber configuration (length buffer) ≡ Refusal.none
+    → (calls : List Call) → HoldsHistory (bytesAfter calls (openBytes configuration buffer)) (afterCalls calls (openedHistory configuration))
+
+-- the same from any bytes that are accepted, for the history begun at what they hold: a handset that was switched off, updated or given
+-- another cell goes on
+abbrev pub FromSaved : Type 0
+FromSaved =
+    (saved : List ℕ) → ((k : ℕ) → getD saved k 0 < 256) → loadRefusal saved ≡ Refusal.none
+    → (calls : List Call) → HoldsHistory (bytesAfter calls saved) (afterCalls calls (begun ((loadAnswer saved) .gauge)))

@@ -1,0 +1,27 @@
+-- The widths of a gauge value's fields, which are those of its saved fields: what every value of the type `Gauge` has in the code.
+-- Definitions only; assumes nothing.
+use mathlib.Core.List.{List}
+use mathlib.Core.Path.{_≡_}
+use Prim.Native.Nat.{ℕ, _<_, _^_}
+use lib.ListN.{getD, length}
+use Rattle.gauge.specs.declared.state.Gauge.{Gauge}
+
+-- "The ten configuration bytes"
+pub record TenBytes (c : List ℕ) : Type 0 where
+  pub ten : length c ≡ 10
+  pub bytes : (k : ℕ) → getD c k 0 < 256
+
+pub record Fits (g : Gauge) : Type 0 where
+  pub configuration : TenBytes (g .configuration)
+  -- "h and DCR, 8 bytes each"
+  pub held : g .charge .held < 256 ^ 8
+  pub dcr : g .charge .run .dcr < 256 ^ 8
+  -- "LMD, SI, c (signed), VOLT, TEMP, AR, 2 each"
+  pub lmd : g .charge .lmd < 256 ^ 2
+  pub standby : g .standby < 256 ^ 2
+  pub magnitude : g .sample .current .magnitude < 256 ^ 2
+  pub voltage : g .sample .voltage < 256 ^ 2
+  pub temperature : g .sample .temperature < 256 ^ 2
+  pub ar : g .host .ar < 256 ^ 2
+  -- "MODE"
+  pub mode : g .host .mode < 256

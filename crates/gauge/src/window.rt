@@ -1,0 +1,60 @@
+// "A window", its five steps.
+ghost use mathlib.Core.Path.{_≡_};
+ghost use Rattle.gauge.specs.Window as Spec;
+use crate::state::Gauge;
+use charge::charge::Charge;
+use configuration::configuration::s0;
+use configuration::configuration::sd;
+use grains::leak::leak_rate;
+use reached::ending::ending_of;
+use reached::full::is_full;
+use reached::reached::charge_ended;
+use reached::reached::filled_if;
+use reached::reached::flags_ended;
+use sample::current::Current;
+use sample::sample::Sample;
+use sample::standby::averaged;
+
+impl Gauge {
+    // Steps 1 and 2: the leak, and the sum of the counted current.
+    fn summed(self, current: Current, temperature: u16) -> Charge
+        ensures { λ r. ⌜ r ≡ Spec.summed current temperature self ⌝ }
+    {
+        let configuration = self.configuration;
+        let rate = leak_rate(sd(configuration), temperature);
+        self.charge.leaked(rate).moved(current)
+    }
+
+    // What the window reaches is decided from the sum; then each part is moved by it.
+    pub(crate) fn stepped(self, current: Current, voltage: u16, temperature: u16) -> Gauge
+        ensures { λ r. ⌜ r ≡ Spec.window current voltage temperature self ⌝ }
+    {
+        let configuration = self.configuration;
+        let summed = self.summed(current, temperature);
+        let full = is_full(configuration, current, voltage, summed.held, summed.lmd);
+        let ending = ending_of(
+            configuration,
+            summed.run.vdq,
+            current.discharge(),
+            voltage,
+            temperature,
+        );
+        let charge = charge_ended(filled_if(summed, full), ending);
+        let flags = flags_ended(self.flags.cleared_if(current.charging), ending);
+        let host = self.host.full_if(full);
+        let sample = Sample {
+            current,
+            voltage,
+            temperature,
+        };
+        let standby = averaged(s0(configuration), self.standby, current.discharge());
+        Gauge {
+            configuration,
+            charge,
+            sample,
+            standby,
+            flags,
+            host,
+        }
+    }
+}

@@ -1,0 +1,4 @@
+pub mod Grains
+pub mod Leak
+pub mod Learning
+pub mod Run

@@ -1,0 +1,5 @@
+// Charge in whole grains: the sums, the leak of a window, a run and its drain, and what a qualified run teaches.
+pub mod grains;
+pub mod leak;
+pub mod learning;
+pub mod run;

@@ -1,0 +1,42 @@
+// What a call leaves in the saved bytes.
+ghost use mathlib.Core.Path.{_≡_};
+ghost use Prim.Native.Nat.{_<_};
+ghost use lib.ListN.{length};
+ghost use Rattle.handset.specs.Keep as Spec;
+ghost use Rattle.saved.specs.Form.{savedLength};
+use gauge::answer::Answer;
+use refusals::NONE;
+use saved::form::AT_AR;
+use saved::form::AT_MODE;
+use saved::save::put;
+
+// The answer's number; where that is 0, its gauge is put into the buffer, or 13.
+pub(crate) fn keep(answer: Answer, saved: &mut [u8]) -> u32
+    ensures number { λ r. ⌜ r ≡ Spec.keptNumber answer (length (now (saved .entry))) ⌝ }
+    ensures bytes { λ _. ⌜ now (saved .exit) ≡ Spec.keptBytes answer (now (saved .entry)) ⌝ }
+{
+    if answer.number != NONE {
+        return answer.number;
+    }
+    let configuration = answer.gauge.configuration;
+    let charge = answer.gauge.charge;
+    let sample = answer.gauge.sample;
+    let standby = answer.gauge.standby;
+    let flags = answer.gauge.flags;
+    let host = answer.gauge.host;
+    put(configuration, charge, sample, standby, flags, host, saved)
+}
+
+// Where the saved bytes hold the byte that a host write stores: MODE at 1, AR low at 2 or AR high at 3.
+pub(crate) fn host_place(address: u32) -> usize
+    ensures { λ r. ⌜ r ≡ Spec.hostPlace address ⌝ }
+    ensures range { λ r. ⌜ r < savedLength ⌝ }
+{
+    if address == 1 {
+        return AT_MODE as usize;
+    }
+    if address == 2 {
+        return AT_AR as usize;
+    }
+    AT_AR as usize + 1
+}

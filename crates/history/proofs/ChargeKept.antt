@@ -1,0 +1,217 @@
+-- A charge that 14 does not refuse and whose LMD fits its two bytes stays one through a window, a rest and a command. A leak is never more
+-- than is held, the passing rule bounds every drain, and above LMD × G a window is full. Assumes nothing.
+use mathlib.Core.Bool.{Bool, true, false, cond, _&&_, _||_}
+use mathlib.Core.Path.{_≡_, refl, sym, _∙_}
+use Prim.Native.Nat.{ℕ, zero, suc, _+_, _-_, _*_, _≤_, _<_}
+use native.Mathlib.Omega.{arith}
+use lib.Dec.{leb, ltb}
+use borrow.Author.Tests.{leb-false}
+use Rattle.charge.specs.Charge.{drawn, emptied, filled, heldMoved, leaked, moved, openedCharge, raised, taught, withoutRun}
+use Rattle.charge.specs.Obeyed.{chargeObeyed, writtenLmd, writtenNac}
+use Rattle.charge.specs.Rest.{rested, restedOnce}
+use Rattle.charge.specs.declared.charge.Charge.{Charge}
+use Rattle.charge.proofs.ChargeLaws.{ChargeSound, RunSound, stop-is-difference}
+use Rattle.command.specs.declared.command.Command.{Command}
+use Rattle.command.specs.declared.command.Command.the-variants.{Wrtnac, Done, Prst, Frst, Wrtlmd}
+use Rattle.configuration.specs.Terms.{Terms}
+use Rattle.grains.specs.Grains.{grainsOfCounts, grainsOfCurrent}
+use Rattle.grains.specs.Leak.{leak}
+use Rattle.grains.specs.Learning.{learned}
+use Rattle.grains.specs.Run.{drained, startedRun}
+use Rattle.grains.proofs.LeakLaws.{leak-within}
+use Rattle.reached.specs.Ending.{endingOf}
+use Rattle.reached.specs.Full.{isFull, taperVoltage}
+use Rattle.reached.specs.Reached.{chargeEnded, filledIf}
+use Rattle.reached.specs.declared.ending.Ending.{Ending}
+use Rattle.reached.specs.declared.ending.Ending.the-variants.{Above, Edvf, Edv1, Qualified}
+use Rattle.sample.specs.Current.{charge, discharge}
+use Rattle.sample.specs.declared.current.Current.{Current}
+use Rattle.history.proofs.RunKept.{drained-none, moved-run-sound, none-sound, passed-sound, started-sound}
+
+pub record Bounded (y : Charge) : Type 0 where
+  pub sound : ChargeSound y
+  pub lmd : y .lmd ≤ 65_535
+
+-- ---- the counted current's two parts
+
+no-charge : (c : Current) → c .charging ≡ false → charge c ≡ 0
+unfolding charge
+no-charge c e = simp e
+
+charge-within : (c : Current) → charge c ≤ c .magnitude
+unfolding charge
+charge-within c = go (c .charging)
+  where
+    go : (t : Bool) → cond t (c .magnitude) 0 ≤ c .magnitude
+    go true = omega arith
+    go false = omega arith
+
+-- ---- steps 1 and 2
+
+module _ (y : Charge) (b : Bounded y) (rate : ℕ) (low : rate ≤ 1_920) where
+  pub leak-most : leak (y .held) rate ≤ y .held
+  leak-most = leak-within (y .held) rate (omega arith)
+
+  pub once-bounded : Bounded (restedOnce rate y)
+  unfolding restedOnce leaked
+  once-bounded =
+      let w = b .sound .within in
+      record {
+        sound = record {
+          learned = b .sound .learned;
+          within = omega arith;
+          run = passed-sound (drained (y .run) (leak (y .held) rate))
+              (drained-none (y .run) (leak (y .held) rate) (b .sound .run .none));
+        };
+        lmd = b .lmd;
+      }
+
+  module _ (c : Current) (small : c .magnitude ≤ 65_535) where
+    -- what is held after the sums: the empty stop is where the difference stops at 0
+    pub moved-held : (moved c (leaked rate y)) .held
+        ≡ (y .held + grainsOfCurrent (charge c)) - (leak (y .held) rate + grainsOfCurrent (discharge c))
+    unfolding moved leaked heldMoved
+    moved-held =
+        let h = leak-most in
+        let i = charge-within c in
+        let w = b .sound .within in
+        let m = b .lmd in
+        let d = stop-is-difference (ltb 0 (discharge c)) (raised c (y .held - leak (y .held) rate)) (drawn c) in
+        let e : raised c (y .held - leak (y .held) rate) - drawn c
+        ≡ (y .held + grainsOfCurrent (charge c)) - (leak (y .held) rate + grainsOfCurrent (discharge c)) = omega arith in
+        sym d ∙ e
+
+    pub moved-lmd : (moved c (leaked rate y)) .lmd ≡ y .lmd
+    unfolding moved leaked
+    moved-lmd = refl
+
+    moved-sound : RunSound ((moved c (leaked rate y)) .run)
+    unfolding moved leaked
+    moved-sound =
+        moved-run-sound (c .charging) (grainsOfCurrent (discharge c)) (drained (y .run) (leak (y .held) rate))
+        (drained-none (y .run) (leak (y .held) rate) (b .sound .run .none))
+
+    -- ---- step 3
+    or-left : (a b : Bool) → (a || b) ≡ false → a ≡ false
+    or-left true b e = e
+    or-left false b e = refl
+
+    module _ (terms : Terms) (v : ℕ) where
+      abbrev full : Bool
+      full = isFull terms c v ((moved c (leaked rate y)) .held) ((moved c (leaked rate y)) .lmd)
+
+      not-full-within : full ≡ false → (moved c (leaked rate y)) .held ≤ grainsOfCounts (y .lmd)
+      unfolding isFull
+      not-full-within e = go (c .charging) refl e
+        where
+          w : y .held ≤ grainsOfCounts (y .lmd)
+          w = b .sound .within
+
+          go : (t : Bool) → c .charging ≡ t
+              → (t && (leb (grainsOfCounts ((moved c (leaked rate y)) .lmd)) ((moved c (leaked rate y)) .held)
+              || (leb (c .magnitude) (2 * terms .taper) && leb taperVoltage v))) ≡ false
+              → (moved c (leaked rate y)) .held ≤ grainsOfCounts (y .lmd)
+          go true p q =
+              let s = leb-false (grainsOfCounts ((moved c (leaked rate y)) .lmd)) ((moved c (leaked rate y)) .held)
+              (or-left (leb (grainsOfCounts ((moved c (leaked rate y)) .lmd)) ((moved c (leaked rate y)) .held))
+              (leb (c .magnitude) (2 * terms .taper) && leb taperVoltage v) q) in
+              let m = moved-lmd in
+              omega arith
+          go false p q =
+              let z = no-charge c p in
+              let h = moved-held in
+              let g = w in
+              omega arith
+
+      pub filled-bounded : Bounded (filledIf full (moved c (leaked rate y)))
+      unfolding filledIf filled
+      filled-bounded = go full refl
+        where
+          p : 0 < y .lmd
+          p = b .sound .learned
+
+          q : y .lmd ≤ 65_535
+          q = b .lmd
+
+          go : (t : Bool) → full ≡ t
+              → Bounded (cond t
+              (record {
+                held = grainsOfCounts ((moved c (leaked rate y)) .lmd);
+                lmd = (moved c (leaked rate y)) .lmd;
+                run = startedRun;
+              })
+              (moved c (leaked rate y)))
+          go true e =
+              let m = moved-lmd in
+              let i = p in
+              let j = q in
+              record { sound = record { learned = omega arith; within = omega arith; run = started-sound }; lmd = omega arith }
+          go false e =
+              let m = moved-lmd in
+              let i = p in
+              let j = q in
+              let h = not-full-within e in
+              record { sound = record { learned = omega arith; within = omega arith; run = moved-sound }; lmd = omega arith }
+
+-- ---- step 4
+
+learned-within : (lmd dcr : ℕ) → learned lmd dcr ≤ 65_535
+unfolding learned
+learned-within lmd dcr = omega arith
+
+learned-above : (lmd dcr : ℕ) → 0 < lmd → 0 < learned lmd dcr
+unfolding learned
+learned-above lmd dcr h = omega arith
+
+ended-bounded : (e : Ending) (y : Charge) → Bounded y → Bounded (chargeEnded e y)
+unfolding chargeEnded emptied withoutRun taught
+ended-bounded Above y b = b
+ended-bounded Edvf y b =
+    record { sound = record { learned = b .sound .learned; within = omega arith; run = none-sound }; lmd = b .lmd }
+ended-bounded Edv1 y b =
+    record { sound = record { learned = b .sound .learned; within = b .sound .within; run = none-sound }; lmd = b .lmd }
+ended-bounded Qualified y b =
+    record {
+      sound = record {
+        learned = learned-above (y .lmd) (y .run .dcr) (b .sound .learned);
+        within = omega arith;
+        run = none-sound;
+      };
+      lmd = learned-within (y .lmd) (y .run .dcr);
+    }
+
+-- what the five steps of a window make of the charge
+abbrev pub chargeAfter : Terms → ℕ → Current → ℕ → ℕ → Charge → Charge
+chargeAfter terms rate c v t y =
+    chargeEnded (endingOf terms ((moved c (leaked rate y)) .run .vdq) (discharge c) v t)
+    (filledIf (isFull terms c v ((moved c (leaked rate y)) .held) ((moved c (leaked rate y)) .lmd)) (moved c (leaked rate y)))
+
+pub window-bounded : (terms : Terms) (rate : ℕ) (c : Current) (v t : ℕ) (y : Charge) → Bounded y → rate ≤ 1_920 → c .magnitude ≤ 65_535
+    → Bounded (chargeAfter terms rate c v t y)
+window-bounded terms rate c v t y b low small = ended-bounded _ _ (filled-bounded y b rate low c small terms v)
+
+-- ---- a rest
+
+pub rest-bounded : (n rate : ℕ) (y : Charge) → Bounded y → rate ≤ 1_920 → Bounded (rested n rate y)
+unfolding rested
+rest-bounded zero rate y b low = b
+rest-bounded (suc n) rate y b low = rest-bounded n rate (restedOnce rate y) (once-bounded y b rate low) low
+
+-- ---- opening and the commands
+
+pub opened-bounded : (terms : Terms) → 0 < terms .capacity → terms .capacity ≤ 65_535 → Bounded (openedCharge terms)
+unfolding openedCharge
+opened-bounded terms p q = record { sound = record { learned = p; within = omega arith; run = none-sound }; lmd = q }
+
+pub command-bounded : (command : Command) (terms : Terms) (ar : ℕ) (y : Charge) → Bounded y → 0 < terms .capacity → terms .capacity ≤ 65_535
+    → ar ≤ 65_535 → (command ≡ Wrtlmd → 0 < ar) → Bounded (chargeObeyed command terms ar y)
+unfolding chargeObeyed writtenNac writtenLmd withoutRun filled
+command-bounded Wrtnac terms ar y b p q w above =
+    record { sound = record { learned = b .sound .learned; within = omega arith; run = none-sound }; lmd = b .lmd }
+command-bounded Done terms ar y b p q w above =
+    record { sound = record { learned = b .sound .learned; within = omega arith; run = started-sound }; lmd = b .lmd }
+command-bounded Prst terms ar y b p q w above =
+    record { sound = record { learned = b .sound .learned; within = b .sound .within; run = none-sound }; lmd = b .lmd }
+command-bounded Frst terms ar y b p q w above = opened-bounded terms p q
+command-bounded Wrtlmd terms ar y b p q w above =
+    record { sound = record { learned = above refl; within = omega arith; run = none-sound }; lmd = w }

@@ -1,0 +1,74 @@
+-- An accepted gauge of the widths that every gauge has, part by part, and back: what acceptance asks bounds every width but those of the
+-- configuration, LMD, MODE and AR. Assumes nothing.
+use mathlib.Core.Bool.{true, not}
+use mathlib.Core.List.{List}
+use mathlib.Core.Path.{_≡_}
+use Prim.Native.Nat.{ℕ, _*_, _≤_, _<_}
+use native.Mathlib.Omega.{arith}
+use lib.Dec.{eqb}
+use borrow.Author.Tests.{eqb-false, leb-true, not-true}
+use Rattle.configuration.specs.Configuration.{dmf, ilmd, s0, sd}
+use Rattle.gauge.specs.Fits.{TenBytes}
+use Rattle.gauge.specs.declared.state.Gauge.{Gauge}
+use Rattle.gauge.proofs.AcceptedLaws.{Sound, sound, sound-accepted}
+use Rattle.grains.specs.Leak.{leakRate}
+use Rattle.grains.proofs.LeakLaws.{leak-rate-within}
+use Rattle.sample.specs.Limits.{leastTemperature, leastVoltage, mostTemperature, mostVoltage}
+use Rattle.sample.specs.Standby.{standbyAccepted}
+use Rattle.history.specs.Claim.{Taken}
+use Rattle.history.proofs.ChargeKept.{Bounded}
+use Rattle.history.proofs.HostKept.{HostFits}
+use Rattle.history.proofs.SampleKept.{current-fits, value-fits}
+
+pub record Standing (g : Gauge) : Type 0 where
+  pub ten : TenBytes (g .configuration)
+  pub sound : Sound g
+  pub lmd : g .charge .lmd ≤ 65_535
+  pub host : HostFits (g .host)
+
+module _ (g : Gauge) where
+  pub standing : Taken g → Standing g
+  standing k =
+      let l = k .fits .lmd in
+      let a = k .fits .ar in
+      record {
+        ten = k .fits .configuration;
+        sound = sound g (k .accepted);
+        lmd = omega arith;
+        host = record { mode = k .fits .mode; ar = omega arith };
+      }
+
+  pub taken : Standing g → Taken g
+  unfolding standbyAccepted
+  taken s =
+      let l = s .lmd in
+      let w = s .sound .charge .within in
+      let d = s .sound .charge .run .within in
+      let i = s .ten .bytes 3 in
+      let n = leb-true (g .standby) (2 * s0 (g .configuration)) (s .sound .standby) in
+      let a = s .host .ar in
+      record {
+        fits = record {
+          configuration = s .ten;
+          held = omega arith;
+          dcr = omega arith;
+          lmd = omega arith;
+          standby = omega arith;
+          magnitude = current-fits (dmf (g .configuration)) (g .sample .current) (s .sound .sample .current);
+          voltage = value-fits leastVoltage mostVoltage (g .sample .voltage) (omega arith) (s .sound .sample .voltage);
+          temperature =
+              value-fits leastTemperature mostTemperature (g .sample .temperature) (omega arith) (s .sound .sample .temperature);
+          ar = omega arith;
+          mode = s .host .mode;
+        };
+        accepted = sound-accepted g (s .sound);
+      }
+
+  pub bounded : Standing g → Bounded (g .charge)
+  bounded s = record { sound = s .sound .charge; lmd = s .lmd }
+
+pub opens : (c : List ℕ) → not (eqb (ilmd c) 0) ≡ true → 0 < ilmd c
+opens c e = let n : ilmd c ≡ 0 → ⊥ = eqb-false (ilmd c) 0 (not-true (eqb (ilmd c) 0) e) in omega arith
+
+pub rate-low : (c : List ℕ) (t : ℕ) → leakRate (sd c) t ≤ 1_920
+rate-low c t = leak-rate-within (sd c) t (let h : sd c ≤ 15 = omega arith in h)

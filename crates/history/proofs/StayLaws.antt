@@ -1,0 +1,166 @@
+-- What is accepted stays accepted: each call leaves a charge, a sample, an SI, MODE and AR that 14 does not refuse and that fit their
+-- widths; a refused call leaves the gauge. Assumes nothing.
+use mathlib.Core.Bool.{Bool, true, false, cond}
+use mathlib.Core.Path.{_≡_, refl, ap}
+use Prim.Native.Nat.{ℕ, _<_}
+use native.Mathlib.Omega.{arith}
+use lib.Dec.{eqb}
+use lib.IntN.{ℤ}
+use borrow.Author.Tests.{eqb-true}
+use Rattle.command.specs.Command.{decide, isReset}
+use Rattle.command.specs.declared.command.Command.{Command}
+use Rattle.command.specs.declared.command.Command.the-variants.{Wrtlmd}
+use Rattle.command.specs.declared.command.Decision.{Decision}
+use Rattle.command.specs.declared.command.Decision.the-variants.{Obey, Refused}
+use Rattle.configuration.specs.Configuration.{dmf, s0, sd}
+use Rattle.configuration.specs.Terms.{termsOf}
+use Rattle.gauge.specs.Accepted.{accepted}
+use Rattle.gauge.specs.Answer.{answered, unlessRejected}
+use Rattle.gauge.specs.Calls.{restAnswer, restInRange, restRefusal, sampleRefusal, storedAt, windowAnswer, writeAnswer, writeRefusal, written}
+use Rattle.gauge.specs.Obey.{decided, obeyed}
+use Rattle.gauge.specs.Rest.{rest}
+use Rattle.gauge.specs.Window.{reachedIn, summed, window}
+use Rattle.gauge.specs.declared.state.Gauge.{Gauge}
+use Rattle.grains.specs.Leak.{leakRate}
+use Rattle.reached.specs.Reached.{chargeReached, reachedBy}
+use Rattle.sample.specs.Current.{counted, discharge}
+use Rattle.sample.specs.Range.{current, temperature, temperatureInRange, voltage}
+use Rattle.sample.specs.Sample.{sampleReset}
+use Rattle.sample.specs.Standby.{standbyAccepted, standbyReset}
+use Rattle.sample.proofs.SampleLaws.{SampleSound}
+use Rattle.history.specs.After.{gaugeAfter}
+use Rattle.history.specs.Call.{Call}
+use Rattle.history.specs.Call as Call
+use Rattle.history.specs.Claim.{StaysAccepted}
+use Rattle.history.proofs.AnswerLaws.{InRange, not-rejected, rest-in-range, window-in-range}
+use Rattle.history.proofs.ChargeKept.{command-bounded, rest-bounded, window-bounded}
+use Rattle.history.proofs.DecisionLaws.{wrtlmd-above}
+use Rattle.history.proofs.HostKept.{full-fits, obeyed-fits, stored-fits}
+use Rattle.history.proofs.SampleKept.{averaged-kept, counted-within, no-sample, opened-standby, rest-sample, window-sample}
+use Rattle.history.proofs.Standing.{Standing, bounded, opens, rate-low, standing, taken}
+
+-- ---- each call's work
+
+module _ (g : Gauge) (s : Standing g) where
+  window-stands : (a v t : ℤ) → InRange a v t
+      → Standing (window (counted (dmf (g .configuration)) (current a)) (voltage v) (temperature t) g)
+  unfolding window summed reachedIn reachedBy chargeReached
+  window-stands a v t r =
+      let c = g .configuration in
+      let i = counted (dmf c) (current a) in
+      let b = window-bounded (termsOf c) (leakRate (sd c) (temperature t)) i (voltage v) (temperature t) (g .charge) (bounded g s)
+      (rate-low c (temperature t)) (counted-within (dmf c) a (r .current)) in
+      record {
+        ten = s .ten;
+        sound = record {
+          ilmd = s .sound .ilmd;
+          charge = b .sound;
+          standby = averaged-kept (s0 c) (g .standby) (discharge i) (s .sound .standby);
+          sample = window-sample (dmf c) a v t (r .current) (r .voltage) (r .temperature);
+        };
+        lmd = b .lmd;
+        host = full-fits _ (g .host) (s .host);
+      }
+
+  rest-stands : (n : ℕ) (t : ℤ) → temperatureInRange t ≡ true → Standing (rest n (temperature t) g)
+  unfolding rest
+  rest-stands n t r =
+      let c = g .configuration in
+      let b = rest-bounded n (leakRate (sd c) (temperature t)) (g .charge) (bounded g s) (rate-low c (temperature t)) in
+      record {
+        ten = s .ten;
+        sound = record {
+          ilmd = s .sound .ilmd;
+          charge = b .sound;
+          standby = s .sound .standby;
+          sample = rest-sample (dmf c) (g .sample) t (s .sound .sample) r;
+        };
+        lmd = b .lmd;
+        host = s .host;
+      }
+
+  stored-stands : (address value : ℕ) → value < 256 → Standing (storedAt address value g)
+  unfolding storedAt
+  stored-stands address value small =
+      record {
+        ten = s .ten;
+        sound = record {
+          ilmd = s .sound .ilmd;
+          charge = s .sound .charge;
+          standby = s .sound .standby;
+          sample = s .sound .sample;
+        };
+        lmd = s .lmd;
+        host = stored-fits address value (g .host) small (s .host);
+      }
+
+  reset-sample : (t : Bool) → SampleSound (dmf (g .configuration)) (sampleReset t (g .sample))
+  unfolding sampleReset
+  reset-sample true = no-sample (dmf (g .configuration))
+  reset-sample false = s .sound .sample
+
+  reset-standby : (t : Bool)
+      → standbyAccepted (s0 (g .configuration)) (standbyReset t (s0 (g .configuration)) (g .standby)) ≡ true
+  unfolding standbyReset
+  reset-standby true = opened-standby (s0 (g .configuration))
+  reset-standby false = s .sound .standby
+
+  obeyed-stands : (command : Command) → (command ≡ Wrtlmd → 0 < g .host .ar) → Standing (obeyed command g)
+  unfolding obeyed
+  obeyed-stands command above =
+      let c = g .configuration in
+      let p = opens c (s .sound .ilmd) in
+      let q = s .ten .bytes 0 in
+      let w = s .host .ar in
+      let b = command-bounded command (termsOf c) (g .host .ar) (g .charge) (bounded g s) (omega arith) (omega arith) (omega arith) above in
+      record {
+        ten = s .ten;
+        sound = record {
+          ilmd = s .sound .ilmd;
+          charge = b .sound;
+          standby = reset-standby (isReset command);
+          sample = reset-sample (isReset command);
+        };
+        lmd = b .lmd;
+        host = obeyed-fits command c (g .host) (s .host);
+      }
+
+  decided-stands : (d : Decision) → (d ≡ Obey Wrtlmd → 0 < g .host .ar) → Standing (decided d g)
+  unfolding decided
+  decided-stands (Obey command) above = obeyed-stands command (λ e. above (ap Obey e))
+  decided-stands (Refused number) above = s
+
+  written-stands : (address value : ℕ) → value < 256 → Standing (written address value g)
+  unfolding written
+  written-stands address value small = go (eqb address 0)
+    where
+      go : (t : Bool) → Standing (cond t (decided (decide value (g .host .mode) (g .host .ar)) g) (storedAt address value g))
+      go true =
+          decided-stands (decide value (g .host .mode) (g .host .ar)) (wrtlmd-above value (g .host .mode) (g .host .ar))
+      go false = stored-stands address value small
+
+-- ---- every call
+
+-- a refusal leaves the gauge
+answered-stands : (n : ℕ) (g next : Gauge) → Standing g → (n ≡ 0 → Standing next) → Standing ((answered n g next) .gauge)
+answered-stands n g next s f = go (eqb n 0) refl
+  where
+    go : (t : Bool) → eqb n 0 ≡ t → Standing (cond t next g)
+    go true e = f (eqb-true n 0 e)
+    go false e = s
+
+pub call-stands : (call : Call) (g : Gauge) → Standing g → Standing (gaugeAfter call g)
+unfolding gaugeAfter windowAnswer restAnswer writeAnswer
+call-stands (Call.window a v t) g s =
+    answered-stands (unlessRejected g (sampleRefusal a v t)) g _ s
+    (λ e. window-stands g s a v t (window-in-range a v t (not-rejected (accepted g) (sampleRefusal a v t) e)))
+call-stands (Call.rest n t) g s =
+    answered-stands (unlessRejected g (restRefusal n t)) g _ s
+    (λ e. rest-stands g s n t (rest-in-range (restInRange n) t (not-rejected (accepted g) (restRefusal n t) e)))
+call-stands (Call.write address value) g s =
+    answered-stands (unlessRejected g (writeRefusal (g .host .mode) (g .host .ar) address (value .number))) g _ s
+    (λ e. written-stands g s address (value .number) (value .below))
+call-stands (Call.read address count place replyLength) g s = s
+
+pub stays-accepted : StaysAccepted
+stays-accepted g k call = taken (gaugeAfter call g) (call-stands call g (standing g k))

@@ -1,0 +1,2 @@
+// The bytes that the host writes: MODE and AR.
+pub mod host;

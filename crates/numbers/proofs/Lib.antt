@@ -1,0 +1,6 @@
+pub mod BitLaws
+pub mod BoolLaws
+pub mod EveryLaws
+pub mod LittleLaws
+pub mod ProductLaws
+pub mod SignedLaws

@@ -1,0 +1,33 @@
+-- Laws of the times: what is shown, put together from the calls' answers. Assumes nothing.
+use mathlib.Core.Path.{_≡_, ap, _∙_}
+use Prim.Native.Nat.{ℕ, _-_, _*_}
+use Rattle.compensation.specs.Compensation.{compensated, dcmp, minutes}
+use Rattle.gauge.specs.declared.state.Gauge.{Gauge}
+use Rattle.sample.specs.Current.{charge, discharge}
+use Rattle.registers.specs.Times.{artte, stte, tte, ttf}
+use Rattle.registers.specs.Values.{cac, nac}
+
+module _ (g : Gauge) where
+  pub tte-is : {n i r : ℕ} → n ≡ cac g → i ≡ discharge (g .sample .current) → r ≡ minutes (60 * n) i → r ≡ tte g
+  unfolding tte
+  tte-is {i = i} p q e = e ∙ ap (λ (k : ℕ). minutes (60 * k) i) p ∙ ap (minutes (60 * cac g)) q
+
+  pub ttf-is : {n i r : ℕ} → n ≡ nac g → i ≡ charge (g .sample .current) → r ≡ minutes (90 * (g .charge .lmd - n)) i → r ≡ ttf g
+  unfolding ttf
+  ttf-is {i = i} p q e =
+      e
+      ∙ ap (λ (k : ℕ). minutes (90 * (g .charge .lmd - k)) i) p
+      ∙ ap (minutes (90 * (g .charge .lmd - nac g))) q
+
+  pub stte-is : {n r : ℕ} → n ≡ nac g → r ≡ minutes (60 * n) (g .standby) → r ≡ stte g
+  unfolding stte
+  stte-is p e = e ∙ ap (λ (k : ℕ). minutes (60 * k) (g .standby)) p
+
+  pub artte-is : {d n i r : ℕ} → d ≡ dcmp (g .configuration) (g .host .ar) (g .sample .temperature) → n ≡ nac g → i ≡ compensated n d
+      → r ≡ minutes (60 * i) (g .host .ar) → r ≡ artte g
+  unfolding artte
+  artte-is {d = d} p q s e =
+      e
+      ∙ ap (λ (k : ℕ). minutes (60 * k) (g .host .ar)) s
+      ∙ ap (λ (k : ℕ). minutes (60 * compensated k d) (g .host .ar)) q
+      ∙ ap (λ (k : ℕ). minutes (60 * compensated (nac g) k) (g .host .ar)) p

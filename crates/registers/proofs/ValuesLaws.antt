@@ -1,0 +1,49 @@
+-- Laws of the capacities: NAC is at most LMD, a part of a whole is at most 100 hundredths of it, and what is shown, put together from the
+-- calls' answers. Assumes nothing.
+use mathlib.Core.Bool.{true}
+use mathlib.Core.Path.{_≡_, ap, _∙_}
+use Prim.Native.Nat.{ℕ, _*_, _/_, _≤_, _<_}
+use native.Mathlib.Nat.{div-le-of-le-mul}
+use native.Mathlib.Omega.{arith}
+use mir.Syntax.{w8}
+use mir.Val.{Fits}
+use Rattle.compensation.specs.Compensation.{compensated, dcmp}
+use Rattle.gauge.specs.Accepted.{accepted}
+use Rattle.gauge.specs.declared.state.Gauge.{Gauge}
+use Rattle.gauge.proofs.AcceptedLaws.{sound}
+use Rattle.grains.specs.Grains as Grains
+use Rattle.sample.specs.Current.{discharge}
+use Rattle.registers.specs.Values.{cac, fcac, nac, reduction}
+
+-- ---- NAC and RSOC
+
+nac-below : (h l : ℕ) → h ≤ Grains.grainsOfCounts l → Grains.nac h ≤ l
+nac-below h l p = omega arith
+
+module _ (g : Gauge) (a : accepted g ≡ true) where
+  pub capacity-learned : 0 < g .charge .lmd
+  capacity-learned = sound g a .charge .learned
+
+  pub nac-within : {n : ℕ} → n ≡ nac g → n ≤ g .charge .lmd
+  nac-within e = let h = nac-below (g .charge .held) (g .charge .lmd) (sound g a .charge .within) in omega arith
+
+pub percent-fits : (part whole : ℕ) → part ≤ whole → Fits w8 (100 * part / whole)
+percent-fits part whole h =
+    let k : 100 * part ≤ whole * 100 = omega arith in
+    let q : 100 * part / whole ≤ 100 = div-le-of-le-mul whole k in
+    record { fits = omega arith }
+
+-- ---- what is shown, from what the calls answer
+
+module _ (g : Gauge) where
+  pub reduction-is : {i r : ℕ} → i ≡ discharge (g .sample .current) → r ≡ dcmp (g .configuration) i (g .sample .temperature) → r ≡ reduction g
+  unfolding reduction
+  reduction-is p e = e ∙ ap (λ (k : ℕ). dcmp (g .configuration) k (g .sample .temperature)) p
+
+  pub cac-is : {n d r : ℕ} → n ≡ nac g → d ≡ reduction g → r ≡ compensated n d → r ≡ cac g
+  unfolding cac
+  cac-is {d = d} p q e = e ∙ ap (λ (k : ℕ). compensated k d) p ∙ ap (compensated (nac g)) q
+
+  pub fcac-is : {d r : ℕ} → d ≡ reduction g → r ≡ compensated (g .charge .lmd) d → r ≡ fcac g
+  unfolding fcac
+  fcac-is q e = e ∙ ap (compensated (g .charge .lmd)) q

@@ -1,0 +1,23 @@
+-- "Registers" of paper 01: the times that are shown, minutes. With the wrong sign the divisor is 0, and the quotient 65,535.
+-- Definitions only; assumes nothing.
+use Prim.Native.Nat.{ℕ, _-_, _*_}
+use Rattle.compensation.specs.Compensation.{compensated, dcmp, minutes}
+use Rattle.gauge.specs.declared.state.Gauge.{Gauge}
+use Rattle.sample.specs.Current.{charge, discharge}
+use Rattle.registers.specs.Values.{cac, nac}
+
+-- "TTE = 60 × CAC / IAV if c < 0"
+unfoldable pub tte : Gauge → ℕ
+tte g = minutes (60 * cac g) (discharge (g .sample .current))
+
+-- "TTF = 90 × (LMD − NAC) / IAV if c > 0"
+unfoldable pub ttf : Gauge → ℕ
+ttf g = minutes (90 * (g .charge .lmd - nac g)) (charge (g .sample .current))
+
+-- "STTE = 60 × NAC / SI"
+unfoldable pub stte : Gauge → ℕ
+stte g = minutes (60 * nac g) (g .standby)
+
+-- "ARTTE = 60 × max(0, NAC − DCMP(AR)) / AR"
+unfoldable pub artte : Gauge → ℕ
+artte g = minutes (60 * compensated (nac g) (dcmp (g .configuration) (g .host .ar) (g .sample .temperature))) (g .host .ar)

@@ -1,0 +1,5 @@
+pub mod Current
+pub mod Limits
+pub mod Range
+pub mod Sample
+pub mod Standby

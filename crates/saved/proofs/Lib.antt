@@ -1,0 +1,7 @@
+pub mod FlagsByteLaws
+pub mod FormLaws
+pub mod LoadLaws
+pub mod PutLaws
+pub mod RoundTripLaws
+pub mod SaveLaws
+pub mod SignedLaws

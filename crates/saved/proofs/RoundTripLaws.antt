@@ -1,0 +1,221 @@
+-- A saved gauge reads back as itself, and what is read back saves as the same bytes. Assumes nothing.
+use mathlib.Core.Bool.{Bool, true, false, cond}
+use mathlib.Core.List.{List}
+use mathlib.Core.Path.{_≡_, refl, sym, ap, _∙_}
+use Prim.Native.Nat.{ℕ, _^_, _<_}
+use native.Mathlib.Omega.{arith}
+use lib.Dec.{T, eqb}
+use lib.ListN.{getD, length}
+use borrow.Author.Tests.{eq-eqb}
+use Rattle.configuration.specs.Configuration.{dmf}
+use Rattle.flags.specs.Byte.{flagsFit, flagsOf, vdqOf}
+use Rattle.gauge.specs.Accepted.{accepted}
+use Rattle.gauge.specs.Fits.{Fits}
+use Rattle.gauge.specs.declared.answer.Answer.{Answer}
+use Rattle.gauge.specs.declared.state.Gauge.{Gauge}
+use Rattle.gauge.proofs.AcceptedLaws.{sound}
+use Rattle.numbers.proofs.BoolLaws.{and-left, and-right}
+use Rattle.numbers.proofs.LittleLaws.{number-fits, whole, write-back}
+use Rattle.numbers.specs.Little.{bytesAt, little, numberAt}
+use Rattle.refusals.specs.Refusal as Refusal
+use Rattle.sample.specs.Sample.{currentAccepted}
+use Rattle.saved.proofs.FlagsByteLaws.{byte-accepted, byte-back, byte-fits, flags-back, vdq-back}
+use Rattle.saved.proofs.FormLaws.{field-found, fields-held, has, number-found, one-is}
+use Rattle.saved.proofs.LoadLaws.{charge-alike, form-first, form-flags, form-length, gauge-alike, host-alike, sample-alike}
+use Rattle.saved.proofs.SaveLaws.{saved-length}
+use Rattle.saved.proofs.SignedLaws.{current-back, pair-back, pair-fits}
+use Rattle.saved.specs.Form.{Ar, Configuration, Current, Dcr, Flags, FormNumber, Held, Lmd, Mode, Name, Standby, Temperature, Voltage, bytesOf, form1, lengthOf, newest, numberOf, placeOf, savedLength, widthOf}
+use Rattle.saved.specs.Load.{formFits, loadAnswer, loadRefusal, loadable, loaded, loadedCharge, loadedHost, loadedSample, rejectedAnswer}
+use Rattle.saved.specs.RoundTrip.{reloadedAnswer}
+use Rattle.saved.specs.Save.{bufferAfter, fieldBytes, flagsOfGauge, saveRefusal, savedBytes}
+use Rattle.saved.specs.Signed.{currentOf, signedPair}
+
+abbrev answer : ℕ → Gauge → Answer
+answer number gauge = record { number = number; gauge = gauge }
+
+-- ---- a gauge, saved and loaded
+
+-- what of `Fits` a gauge needs to read back as itself: the configuration's bytes are saved as they are
+pub record Widths (g : Gauge) : Type 0 where
+  pub ten : length (g .configuration) ≡ 10
+  pub held : g .charge .held < 256 ^ 8
+  pub dcr : g .charge .run .dcr < 256 ^ 8
+  pub lmd : g .charge .lmd < 256 ^ 2
+  pub standby : g .standby < 256 ^ 2
+  pub magnitude : g .sample .current .magnitude < 256 ^ 2
+  pub voltage : g .sample .voltage < 256 ^ 2
+  pub temperature : g .sample .temperature < 256 ^ 2
+  pub ar : g .host .ar < 256 ^ 2
+  pub mode : g .host .mode < 256
+
+widths-of : (g : Gauge) → Fits g → Widths g
+widths-of g f =
+    record {
+      ten = f .configuration .ten;
+      held = f .held;
+      dcr = f .dcr;
+      lmd = f .lmd;
+      standby = f .standby;
+      magnitude = f .magnitude;
+      voltage = f .voltage;
+      temperature = f .temperature;
+      ar = f .ar;
+      mode = f .mode;
+    }
+
+module _ (g : Gauge) where
+  -- a number is found in its field
+  found : (n : Name) (value : ℕ) → T (has n (newest .fields))
+      → fieldBytes (newest .number) g n (widthOf n (newest .fields)) ≡ little (widthOf n (newest .fields)) value
+      → value < 256 ^ widthOf n (newest .fields) → numberOf n newest (savedBytes g) ≡ value
+  unfolding savedBytes
+  found n value h e fits = number-found (newest .number) g n (newest .fields) value h e fits
+
+  form-found : numberOf FormNumber newest (savedBytes g) ≡ newest .number
+  unfolding fieldBytes
+  form-found = found FormNumber (newest .number) tt refl (omega arith)
+
+  flags-found : numberOf Flags newest (savedBytes g) ≡ flagsOfGauge g
+  unfolding fieldBytes
+  flags-found = found Flags (flagsOfGauge g) tt refl (byte-fits (g .sample .current .charging) (g .charge .run .vdq) (g .flags))
+
+  configuration-found : bytesOf Configuration newest (savedBytes g) ≡ bytesAt 10 0 (g .configuration)
+  unfolding savedBytes fieldBytes
+  configuration-found = field-found (newest .number) g Configuration (newest .fields) tt
+
+  module _ (f : Widths g) (a : currentAccepted (dmf (g .configuration)) (g .sample .current) ≡ true) where
+    current-found : currentOf (numberOf Current newest (savedBytes g)) ≡ g .sample .current
+    unfolding fieldBytes
+    current-found =
+        ap currentOf (found Current (signedPair (g .sample .current)) tt refl (pair-fits (g .sample .current) (f .magnitude)))
+        ∙ current-back (dmf (g .configuration)) (g .sample .current) a
+
+    -- loading what was saved gives the same gauge
+    pub loaded-saved : loaded newest (savedBytes g) ≡ g
+    unfolding loaded loadedCharge loadedSample loadedHost fieldBytes
+    loaded-saved =
+        let chgs = g .sample .current .charging in
+        let vdq = g .charge .run .vdq in
+        gauge-alike (configuration-found ∙ whole 10 (g .configuration) (f .ten))
+        (charge-alike (found Held (g .charge .held) tt refl (f .held)) (found Lmd (g .charge .lmd) tt refl (f .lmd))
+        (ap vdqOf flags-found ∙ vdq-back chgs vdq (g .flags)) (found Dcr (g .charge .run .dcr) tt refl (f .dcr)))
+        (sample-alike current-found (found Voltage (g .sample .voltage) tt refl (f .voltage))
+        (found Temperature (g .sample .temperature) tt refl (f .temperature)))
+        (found Standby (g .standby) tt refl (f .standby)) (ap flagsOf flags-found ∙ flags-back chgs vdq (g .flags))
+        (host-alike (found Mode (g .host .mode) tt refl (f .mode)) (found Ar (g .host .ar) tt refl (f .ar)))
+
+    saved-fits : formFits newest (savedBytes g) ≡ true
+    unfolding formFits
+    saved-fits =
+        simp (
+          eq-eqb (length (savedBytes g)) savedLength (saved-length g),
+          eq-eqb (numberOf FormNumber newest (savedBytes g)) (newest .number) form-found,
+        )
+        (ap (λ (b : ℕ). flagsFit b ((currentOf (numberOf Current newest (savedBytes g))) .charging)) flags-found
+        ∙ ap (flagsFit (flagsOfGauge g)) (ap (λ c. c .charging) current-found)
+        ∙ byte-accepted (g .sample .current .charging) (g .charge .run .vdq) (g .flags))
+
+    -- and those bytes are accepted
+    saved-loadable : accepted g ≡ true → loadable (savedBytes g) ≡ true
+    unfolding loadable
+    saved-loadable e = simp (saved-fits, loaded-saved) e
+
+  load-back : Widths g → accepted g ≡ true → loadAnswer (savedBytes g) ≡ answer Refusal.none g
+  unfolding loadAnswer
+  load-back f e =
+      let a = sound g e .sample .current in
+      simp (saved-loadable f a e) (ap (answer Refusal.none) (loaded-saved f a))
+
+  pub load-of-saved : Fits g → accepted g ≡ true → loadAnswer (savedBytes g) ≡ record { number = Refusal.none; gauge = g }
+  load-of-saved f e = load-back (widths-of g f) e
+
+-- ---- bytes, loaded and saved
+
+module _ (bytes : List ℕ) (small : (k : ℕ) → getD bytes k 0 < 256) (f : formFits newest bytes ≡ true) where
+  -- a number is saved as the bytes that it was read from
+  back : (n : Name) → little (widthOf n (newest .fields)) (numberOf n newest bytes) ≡ bytesOf n newest bytes
+  back n = write-back (widthOf n (newest .fields)) (placeOf n (newest .fields)) bytes small
+
+  flags-small : numberOf Flags newest bytes < 256
+  flags-small = let b = small (placeOf Flags (newest .fields)) in omega arith
+
+  -- saving what was loaded gives the same bytes
+  pub saved-loaded : savedBytes (loaded newest bytes) ≡ bytes
+  unfolding loaded loadedCharge loadedSample loadedHost savedBytes fieldBytes
+  saved-loaded =
+      let current = ap (little 2) (pair-back (numberOf Current newest bytes) (number-fits (placeOf Current (newest .fields)) bytes small)) in
+      let flags = ap (little 1) (byte-back (numberOf Flags newest bytes) ((currentOf (numberOf Current newest bytes)) .charging) flags-small (form-flags newest bytes f)) in
+      fields-held (newest .number) (loaded newest bytes) bytes 0 (newest .fields) (
+        ap (little 1) (sym (form-first newest bytes f)) ∙ back FormNumber,
+        (
+          refl,
+          (
+            back Held,
+            (
+              back Dcr,
+              (
+                back Lmd,
+                (
+                  back Standby,
+                  (current ∙ back Current, (back Voltage, (back Temperature, (back Ar, (back Mode, (flags ∙ back Flags, tt)))))),
+                ),
+              ),
+            ),
+          ),
+        ),
+      )
+      ∙ whole savedLength bytes (form-length newest bytes f)
+
+-- ---- in the calls' terms
+
+pub load-number : (bytes : List ℕ) (answered : Answer) → answered ≡ loadAnswer bytes → answered .number ≡ loadRefusal bytes
+unfolding loadAnswer loadRefusal rejectedAnswer
+load-number bytes answered e = ap (λ (x : Answer). x .number) e ∙ go (loadable bytes)
+  where
+    go : (t : Bool) → (cond t (answer Refusal.none (loaded form1 bytes)) rejectedAnswer) .number ≡ cond t Refusal.none Refusal.rejected
+    go true = refl
+    go false = refl
+
+loaded-where-0 : (bytes : List ℕ) (answered : Answer) → answered ≡ loadAnswer bytes → answered .number ≡ 0
+    → (loadable bytes ≡ true) × (answered .gauge ≡ loaded form1 bytes)
+unfolding loadAnswer rejectedAnswer
+loaded-where-0 bytes answered e z = go (loadable bytes) refl e
+  where
+    go : (t : Bool) → loadable bytes ≡ t → answered ≡ cond t (answer Refusal.none (loaded form1 bytes)) rejectedAnswer
+        → (loadable bytes ≡ true) × (answered .gauge ≡ loaded form1 bytes)
+    go true p q = (p, ap (λ (x : Answer). x .gauge) q)
+    go false p q =
+        let n : answered .number ≡ 14 = ap (λ (x : Answer). x .number) q in
+        let no : ⊥ = omega arith in
+        absurd no
+
+module _ (g : Gauge) (b : List ℕ) (l : length b ≡ savedLength) where
+  -- a buffer of the form's length leaves the test of the gauge alone
+  pub reloaded-refused : {n : ℕ} → n ≡ saveRefusal g (length b) → answer n g ≡ reloadedAnswer g
+  unfolding saveRefusal reloadedAnswer
+  reloaded-refused e = ap (λ (n : ℕ). answer n g) (e ∙ simp (eq-eqb (length b) savedLength l))
+
+  pub reloaded-done : {n : ℕ} {after : List ℕ} {r : Answer} → Widths g → n ≡ saveRefusal g (length b) → n ≡ Refusal.none
+      → after ≡ bufferAfter g b → r ≡ loadAnswer after → r ≡ reloadedAnswer g
+  unfolding saveRefusal reloadedAnswer bufferAfter
+  reloaded-done {n} {after} {r} f e z p q = go (accepted g) refl
+    where
+      go : (t : Bool) → accepted g ≡ t → r ≡ answer (cond t Refusal.none Refusal.rejected) g
+      go true a =
+          let s : after ≡ savedBytes g = p ∙ simp (a, eq-eqb (length b) savedLength l) in
+          q ∙ ap loadAnswer s ∙ load-back g f a
+      go false a =
+          let r14 : n ≡ 14 = e ∙ simp a in
+          let no : ⊥ = omega arith in
+          absurd no
+
+pub resaved-done : (bytes : List ℕ) → ((k : ℕ) → getD bytes k 0 < 256) → (answered : Answer) {n : ℕ} {after : List ℕ} → answered ≡ loadAnswer bytes
+    → answered .number ≡ Refusal.none → n ≡ saveRefusal (answered .gauge) (length bytes) → after ≡ bufferAfter (answered .gauge) bytes
+    → (n ≡ loadRefusal bytes) × (after ≡ bytes)
+unfolding loadRefusal loadable saveRefusal bufferAfter
+resaved-done bytes small answered {n} {after} e z p q =
+    let w = loaded-where-0 bytes answered e z in
+    let fits = and-left (formFits form1 bytes) (accepted (loaded form1 bytes)) (w .0) in
+    let a = ap accepted (w .1) ∙ and-right (formFits form1 bytes) (accepted (loaded form1 bytes)) (w .0) in
+    let l = eq-eqb (length bytes) savedLength (form-length form1 bytes fits) in
+    (p ∙ simp (a, l, w .0), q ∙ simp (a, l) (ap savedBytes (w .1) ∙ saved-loaded bytes small fits))

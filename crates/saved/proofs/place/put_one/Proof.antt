@@ -1,0 +1,16 @@
+-- One store. Assumes nothing.
+use native.Mathlib.Omega.{arith}
+use denote.Ref.{now}
+use Rattle.saved.proofs.PutLaws.{one-put}
+use borrow.Author.Needs.{needs}
+use Rattle.saved.proofs.place.put_one.Statement.{statement}
+use Rattle.saved.proofs.place.put_one.Tie as tie
+
+element-write-bytes : tie.Need-element-write-bytes
+element-write-bytes c = search needs
+
+returns : tie.Need-returns
+returns c = one-put (now (c .args .bytes)) (c .args .place) (c .args .value) (omega arith)
+
+pub put-one-spec : {M : Type 1} → statement M
+put-one-spec = tie.close (tie.spec element-write-bytes returns)

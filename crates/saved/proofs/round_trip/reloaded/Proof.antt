@@ -1,0 +1,57 @@
+-- A rejected gauge is answered as such; the bytes of any other load as it. Assumes nothing.
+use mathlib.Core.Path.{refl}
+use native.Mathlib.Omega.{arith}
+use lib.ListN.{replicate}
+use Rattle.saved.proofs.RoundTripLaws.{Widths, reloaded-done, reloaded-refused}
+use borrow.Author.Needs.{needs}
+use Rattle.saved.proofs.round_trip.reloaded.Statement.{statement}
+use Rattle.saved.proofs.round_trip.reloaded.Tie as tie
+
+fits : (c : tie.Start) → Widths (c .args .gauge)
+fits c =
+    record {
+      ten = search needs;
+      held = omega arith;
+      dcr = omega arith;
+      lmd = omega arith;
+      standby = omega arith;
+      magnitude = omega arith;
+      voltage = omega arith;
+      temperature = omega arith;
+      ar = omega arith;
+      mode = omega arith;
+    }
+
+slice-aggregate-save : tie.Need-slice-aggregate-save
+slice-aggregate-save c = search needs
+
+save-requires : tie.Need-save-requires
+save-requires c κs = search needs
+
+returns : tie.Need-returns
+returns c =
+    let p = c .before .before in
+    reloaded-refused (p .before .before .args .gauge) (replicate 41 0) refl (p .save .ensures .0)
+
+slice-aggregate-load : tie.Need-slice-aggregate-load
+slice-aggregate-load c = search needs
+
+load-requires : tie.Need-load-requires
+load-requires c κs = search needs
+
+returns-2 : tie.Need-returns-2
+returns-2 c =
+    let i = c .before .before in
+    let p = i .before .before in
+    reloaded-done (p .before .before .args .gauge) (replicate 41 0) refl (fits (p .before .before)) (p .save .ensures .0) (i .if1 .left) (p .save .ensures .1) (c .load .ensures)
+
+pub reloaded-spec : {M : Type 1} → statement M
+reloaded-spec =
+    tie.close
+    (tie.spec
+    slice-aggregate-save
+    save-requires
+    returns
+    slice-aggregate-load
+    load-requires
+    returns-2)

@@ -1,0 +1,35 @@
+-- What the bytes hold after each part of a gauge is put among them, in the order of the form. Definitions only; assumes nothing.
+use mathlib.Core.List.{List}
+use Prim.Native.Nat.{ℕ}
+use lib.ListN.{replicate}
+use lib.Seq.{sets}
+use Rattle.charge.specs.declared.charge.Charge.{Charge}
+use Rattle.host.specs.declared.host.Host.{Host}
+use Rattle.numbers.specs.Little.{bytesAt, little}
+use Rattle.sample.specs.declared.sample.Sample.{Sample}
+use Rattle.saved.specs.Form.{Ar, Configuration, Current, Dcr, FormNumber, Held, Lmd, Mode, Name, Temperature, Voltage, newest, placeOf, savedLength, widthOf}
+use Rattle.saved.specs.Signed.{signedPair}
+
+-- a number in its field; the other bytes keep
+abbrev pub numberPut : Name → ℕ → List ℕ → List ℕ
+numberPut n value bytes = sets bytes (placeOf n (newest .fields)) (little (widthOf n (newest .fields)) value)
+
+abbrev pub configurationPut : List ℕ → List ℕ → List ℕ
+configurationPut c bytes = sets bytes (placeOf Configuration (newest .fields)) (bytesAt (widthOf Configuration (newest .fields)) 0 c)
+
+-- "form 1; configuration", over zeros
+unfoldable pub headed : List ℕ → List ℕ
+headed c = configurationPut c (numberPut FormNumber (newest .number) (replicate savedLength 0))
+
+-- "h and DCR .. LMD"
+unfoldable pub chargePut : Charge → List ℕ → List ℕ
+chargePut x bytes = numberPut Lmd (x .lmd) (numberPut Dcr (x .run .dcr) (numberPut Held (x .held) bytes))
+
+-- "c (signed), VOLT, TEMP"
+unfoldable pub samplePut : Sample → List ℕ → List ℕ
+samplePut x bytes =
+    numberPut Temperature (x .temperature) (numberPut Voltage (x .voltage) (numberPut Current (signedPair (x .current)) bytes))
+
+-- "AR .. MODE"
+unfoldable pub hostPut : Host → List ℕ → List ℕ
+hostPut x bytes = numberPut Mode (x .mode) (numberPut Ar (x .ar) bytes)

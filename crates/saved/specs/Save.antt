@@ -1,0 +1,70 @@
+-- "Saved gauge" of paper 01, saving: every byte of the form from the gauge. Definitions only; assumes nothing.
+use mathlib.Core.Bool.{cond}
+use mathlib.Core.List.{List, [], _∷_, _++_}
+use Prim.Native.Nat.{ℕ}
+use lib.Dec.{eqb}
+use lib.ListN.{length}
+use Rattle.charge.specs.declared.charge.Charge.{Charge}
+use Rattle.flags.specs.Byte.{flagsByte}
+use Rattle.flags.specs.declared.flags.Flags as Flag
+use Rattle.gauge.specs.Answer.{unlessRejected}
+use Rattle.gauge.specs.declared.state.Gauge.{Gauge}
+use Rattle.host.specs.declared.host.Host.{Host}
+use Rattle.numbers.specs.Little.{bytesAt, little}
+use Rattle.refusals.specs.Refusal as Refusal
+use Rattle.sample.specs.declared.sample.Sample.{Sample}
+use Rattle.saved.specs.Form.{Ar, Configuration, Current, Dcr, Field, Flags, Form, FormNumber, Held, Lmd, Mode, Name, Standby, Temperature, Voltage, newest, savedLength}
+use Rattle.saved.specs.Signed.{signedPair}
+
+-- FLAGS of a gauge: CHGS is the direction of c, VDQ belongs to the run
+abbrev pub flagsOfGauge : Gauge → ℕ
+flagsOfGauge g = flagsByte (g .sample .current .charging) (g .charge .run .vdq) (g .flags)
+
+-- the bytes of a field, as many as its width; a number stands low byte first
+unfoldable pub fieldBytes : ℕ → Gauge → Name → ℕ → List ℕ
+fieldBytes form g FormNumber width = little width form
+fieldBytes form g Configuration width = bytesAt width 0 (g .configuration)
+fieldBytes form g Held width = little width (g .charge .held)
+fieldBytes form g Dcr width = little width (g .charge .run .dcr)
+fieldBytes form g Lmd width = little width (g .charge .lmd)
+fieldBytes form g Standby width = little width (g .standby)
+fieldBytes form g Current width = little width (signedPair (g .sample .current))
+fieldBytes form g Voltage width = little width (g .sample .voltage)
+fieldBytes form g Temperature width = little width (g .sample .temperature)
+fieldBytes form g Ar width = little width (g .host .ar)
+fieldBytes form g Mode width = little width (g .host .mode)
+fieldBytes form g Flags width = little width (flagsOfGauge g)
+
+-- the bytes of the fields, one after the other
+unfoldable pub fieldsBytes : ℕ → Gauge → List Field → List ℕ
+fieldsBytes form g [] = []
+fieldsBytes form g (f ∷ fs) = fieldBytes form g (f .name) (f .width) ++ fieldsBytes form g fs
+
+abbrev pub bytesIn : Form → Gauge → List ℕ
+bytesIn form g = fieldsBytes (form .number) g (form .fields)
+
+unfoldable pub savedBytes : Gauge → List ℕ
+savedBytes g = bytesIn newest g
+
+-- ---- a buffer
+
+-- 13, "save buffer not 41"
+abbrev pub lengthRefusal : ℕ → ℕ
+lengthRefusal bufferLength = cond (eqb bufferLength savedLength) Refusal.none Refusal.bufferLength
+
+-- every byte of a buffer that a gauge is put into, tested or not
+unfoldable pub putAfter : Gauge → List ℕ → List ℕ
+putAfter g buffer = cond (eqb (length buffer) savedLength) (savedBytes g) buffer
+
+-- 14, then 13
+unfoldable pub saveRefusal : Gauge → ℕ → ℕ
+saveRefusal g bufferLength = unlessRejected g (lengthRefusal bufferLength)
+
+-- every byte of the buffer afterwards
+unfoldable pub bufferAfter : Gauge → List ℕ → List ℕ
+bufferAfter g buffer = cond (eqb (saveRefusal g (length buffer)) Refusal.none) (savedBytes g) buffer
+
+-- a gauge by its parts
+abbrev pub gaugeOf : List ℕ → Charge → Sample → ℕ → Flag.Flags → Host → Gauge
+gaugeOf configuration charge sample standby flags host =
+    record { configuration = configuration; charge = charge; sample = sample; standby = standby; flags = flags; host = host }

@@ -1,0 +1,31 @@
+// Form 1: its number, and where each field stands, which is where the field before it ends.
+
+// "form 1".
+pub const FORM: u8 = 1;
+
+pub const AT_FORM: u16 = 0;
+
+pub const AT_CONFIGURATION: u16 = AT_FORM + 1;
+
+pub const AT_HELD: u16 = AT_CONFIGURATION + 10;
+
+pub const AT_DCR: u16 = AT_HELD + 8;
+
+pub const AT_LMD: u16 = AT_DCR + 8;
+
+pub const AT_STANDBY: u16 = AT_LMD + 2;
+
+pub const AT_CURRENT: u16 = AT_STANDBY + 2;
+
+pub const AT_VOLTAGE: u16 = AT_CURRENT + 2;
+
+pub const AT_TEMPERATURE: u16 = AT_VOLTAGE + 2;
+
+pub const AT_AR: u16 = AT_TEMPERATURE + 2;
+
+pub const AT_MODE: u16 = AT_AR + 2;
+
+pub const AT_FLAGS: u16 = AT_MODE + 1;
+
+// "41 bytes".
+pub const LENGTH: u16 = AT_FLAGS + 1;

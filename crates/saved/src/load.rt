@@ -1,0 +1,149 @@
+// Loading a gauge from bytes of any length and content.
+ghost use mathlib.Core.Path.{_≡_};
+ghost use Rattle.saved.specs.Form.{form1};
+ghost use Rattle.saved.specs.Load as Spec;
+use crate::form::AT_AR;
+use crate::form::AT_CONFIGURATION;
+use crate::form::AT_CURRENT;
+use crate::form::AT_DCR;
+use crate::form::AT_FLAGS;
+use crate::form::AT_FORM;
+use crate::form::AT_HELD;
+use crate::form::AT_LMD;
+use crate::form::AT_MODE;
+use crate::form::AT_STANDBY;
+use crate::form::AT_TEMPERATURE;
+use crate::form::AT_VOLTAGE;
+use crate::form::FORM;
+use crate::form::LENGTH;
+use crate::signed::current_of;
+use charge::charge::Charge;
+use flags::byte::flags_fit;
+use flags::byte::flags_of;
+use flags::byte::vdq_of;
+use gauge::answer::Answer;
+use gauge::opening::open;
+use gauge::state::Gauge;
+use grains::run::Run;
+use host::host::Host;
+use numbers::little::byte_at;
+use numbers::little::eight_at;
+use numbers::little::ten_at;
+use numbers::little::two_at;
+use refusals::NONE;
+use refusals::REJECTED;
+use sample::sample::Sample;
+
+fn loaded_charge(bytes: &[u8]) -> Charge
+    ensures { λ r. ⌜ r ≡ Spec.loadedCharge form1 (now (bytes .entry)) ⌝ }
+{
+    let held = eight_at(bytes, AT_HELD);
+    let dcr = eight_at(bytes, AT_DCR);
+    let lmd = two_at(bytes, AT_LMD);
+    let vdq = vdq_of(byte_at(bytes, AT_FLAGS as usize));
+    let run = Run { vdq, dcr };
+    Charge { held, lmd, run }
+}
+
+fn loaded_sample(bytes: &[u8]) -> Sample
+    ensures { λ r. ⌜ r ≡ Spec.loadedSample form1 (now (bytes .entry)) ⌝ }
+{
+    let current = current_of(two_at(bytes, AT_CURRENT));
+    let voltage = two_at(bytes, AT_VOLTAGE);
+    let temperature = two_at(bytes, AT_TEMPERATURE);
+    Sample {
+        current,
+        voltage,
+        temperature,
+    }
+}
+
+fn loaded_host(bytes: &[u8]) -> Host
+    ensures { λ r. ⌜ r ≡ Spec.loadedHost form1 (now (bytes .entry)) ⌝ }
+{
+    let mode = byte_at(bytes, AT_MODE as usize);
+    let ar = two_at(bytes, AT_AR);
+    Host { mode, ar }
+}
+
+// What the bytes hold, accepted or not; a byte past their end is 0.
+fn loaded_gauge(bytes: &[u8]) -> Gauge
+    ensures { λ r. ⌜ r ≡ Spec.loaded form1 (now (bytes .entry)) ⌝ }
+{
+    let configuration = ten_at(bytes, AT_CONFIGURATION);
+    let charge = loaded_charge(bytes);
+    let sample = loaded_sample(bytes);
+    let standby = two_at(bytes, AT_STANDBY);
+    let flags = flags_of(byte_at(bytes, AT_FLAGS as usize));
+    let host = loaded_host(bytes);
+    Gauge {
+        configuration,
+        charge,
+        sample,
+        standby,
+        flags,
+        host,
+    }
+}
+
+// "length 41, form 1", and the flags that a gauge value has no room for.
+pub fn form_fits(bytes: &[u8]) -> bool
+    ensures { λ r. ⌜ r ≡ Spec.formFits form1 (now (bytes .entry)) ⌝ }
+{
+    if bytes.len() != LENGTH as usize {
+        return false;
+    }
+    if byte_at(bytes, AT_FORM as usize) != FORM {
+        return false;
+    }
+    let current = current_of(two_at(bytes, AT_CURRENT));
+    flags_fit(byte_at(bytes, AT_FLAGS as usize), current.charging)
+}
+
+// 14, with the gauge of a refused opening: rejected bytes hold none.
+fn rejected() -> Answer
+    ensures { λ r. ⌜ r ≡ Spec.rejectedAnswer ⌝ }
+{
+    let refused = open(b"");
+    let gauge = refused.gauge;
+    Answer {
+        number: REJECTED,
+        gauge,
+    }
+}
+
+// The bytes where they are of the form's length, else the others.
+fn of_length<'a>(bytes: &'a [u8], others: &'a [u8]) -> &'a [u8]
+    ensures { λ r. ⌜ now r ≡ Spec.ofLength (now (bytes .entry)) (now (others .entry)) ⌝ }
+{
+    if bytes.len() == LENGTH as usize {
+        return bytes;
+    }
+    others
+}
+
+// What the bytes hold, accepted or not; bytes of another length are read as so many zeros. The length is tested here, once, so that
+// no read of a field tests it again.
+pub fn decoded(bytes: &[u8]) -> Gauge
+    ensures { λ r. ⌜ r ≡ Spec.decodedGauge (now (bytes .entry)) ⌝ }
+{
+    let zeros = [0u8; LENGTH as usize];
+    loaded_gauge(of_length(bytes, &zeros))
+}
+
+// The gauge that the bytes hold, or 14.
+pub fn load(bytes: &[u8]) -> Answer
+    ensures { λ r. ⌜ r ≡ Spec.loadAnswer (now (bytes .entry)) ⌝ }
+{
+    if !form_fits(bytes) {
+        return rejected();
+    }
+    let gauge = decoded(bytes);
+    if !gauge.accepted() {
+        return rejected();
+    }
+    Answer {
+        number: NONE,
+        gauge,
+    }
+}

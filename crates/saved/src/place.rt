@@ -1,0 +1,44 @@
+// Numbers put among the bytes of the form, low byte first, from a place on; the other bytes keep.
+ghost use mathlib.Core.Path.{_≡_};
+ghost use Prim.Native.Nat.{_+_, _≤_};
+ghost use lib.Seq.{sets};
+ghost use Rattle.numbers.specs.Little.{little};
+ghost use Rattle.saved.specs.Form.{savedLength};
+use crate::form::LENGTH;
+
+// The bytes of the form, one value.
+pub(crate) type Saved = [u8; LENGTH as usize];
+
+pub(crate) fn put_one(bytes: &mut Saved, place: u16, value: u8)
+    requires { ⌜ place + 1 ≤ savedLength ⌝ }
+    ensures { λ _. ⌜ now (bytes .exit) ≡ sets (now (bytes .entry)) place (little 1 value) ⌝ }
+{
+    let at = place as usize;
+    bytes[at] = value;
+}
+
+pub(crate) fn put_two(bytes: &mut Saved, place: u16, value: u16)
+    requires { ⌜ place + 2 ≤ savedLength ⌝ }
+    ensures { λ _. ⌜ now (bytes .exit) ≡ sets (now (bytes .entry)) place (little 2 value) ⌝ }
+{
+    let at = place as usize;
+    let next = at + 1;
+    bytes[at] = (value % 256) as u8;
+    bytes[next] = (value / 256) as u8;
+}
+
+fn put_four(bytes: &mut Saved, place: u16, value: u32)
+    requires { ⌜ place + 4 ≤ savedLength ⌝ }
+    ensures { λ _. ⌜ now (bytes .exit) ≡ sets (now (bytes .entry)) place (little 4 value) ⌝ }
+{
+    put_two(bytes, place, (value % 65_536) as u16);
+    put_two(bytes, place + 2, (value / 65_536) as u16);
+}
+
+pub(crate) fn put_eight(bytes: &mut Saved, place: u16, value: u64)
+    requires { ⌜ place + 8 ≤ savedLength ⌝ }
+    ensures { λ _. ⌜ now (bytes .exit) ≡ sets (now (bytes .entry)) place (little 8 value) ⌝ }
+{
+    put_four(bytes, place, (value % 4_294_967_296) as u32);
+    put_four(bytes, place + 4, (value / 4_294_967_296) as u32);
+}

@@ -1,0 +1,35 @@
+// Both round trips, as contracts: a saved gauge reads back as itself, and what is read back saves as the same bytes.
+ghost use mathlib.Core.Path.{_≡_};
+ghost use Rattle.saved.specs.Load.{loadRefusal};
+ghost use Rattle.saved.specs.RoundTrip as Spec;
+use crate::form::LENGTH;
+use crate::load::load;
+use crate::save::save;
+use gauge::answer::Answer;
+use gauge::state::Gauge;
+use refusals::NONE;
+
+// Saved and loaded again: the same gauge, or 14 for one that is rejected.
+pub fn reloaded(gauge: Gauge) -> Answer
+    ensures { λ r. ⌜ r ≡ Spec.reloadedAnswer gauge ⌝ }
+{
+    let mut bytes = [0u8; LENGTH as usize];
+    let number = save(gauge, &mut bytes);
+    if number != NONE {
+        return Answer { number, gauge };
+    }
+    load(&bytes)
+}
+
+// Loaded and saved again: the same bytes, whether they are accepted or not.
+pub fn resaved(bytes: &mut [u8]) -> u32
+    ensures number { λ r. ⌜ r ≡ loadRefusal (now (bytes .entry)) ⌝ }
+    ensures bytes { λ _. ⌜ now (bytes .exit) ≡ now (bytes .entry) ⌝ }
+{
+    let answer = load(bytes);
+    if answer.number != NONE {
+        return answer.number;
+    }
+    let gauge = answer.gauge;
+    save(gauge, bytes)
+}

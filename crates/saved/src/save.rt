@@ -1,0 +1,146 @@
+// Saving a gauge: its fields are put among the bytes one after the other, in the order of the form.
+ghost use mathlib.Core.Path.{_≡_};
+ghost use lib.ListN.{length};
+ghost use Rattle.saved.specs.Put as Put;
+ghost use Rattle.saved.specs.Save as Spec;
+use crate::form::AT_AR;
+use crate::form::AT_CONFIGURATION;
+use crate::form::AT_CURRENT;
+use crate::form::AT_DCR;
+use crate::form::AT_FLAGS;
+use crate::form::AT_FORM;
+use crate::form::AT_HELD;
+use crate::form::AT_LMD;
+use crate::form::AT_MODE;
+use crate::form::AT_STANDBY;
+use crate::form::AT_TEMPERATURE;
+use crate::form::AT_VOLTAGE;
+use crate::form::FORM;
+use crate::form::LENGTH;
+use crate::place::Saved;
+use crate::place::put_eight;
+use crate::place::put_one;
+use crate::place::put_two;
+use crate::signed::signed_pair;
+use charge::charge::Charge;
+use configuration::configuration::Configuration;
+use flags::byte::flags_byte;
+use flags::flags::Flags;
+use gauge::state::Gauge;
+use host::host::Host;
+use refusals::BUFFER_LENGTH;
+use refusals::NONE;
+use refusals::REJECTED;
+use sample::sample::Sample;
+
+// The form's number and the configuration, over zeros. The ten bytes are stored one by one, so that the compiler sees each where it was
+// read and leaves out the store.
+fn headed(configuration: Configuration) -> Saved
+    ensures { λ r. ⌜ r ≡ Put.headed configuration ⌝ }
+{
+    let at = AT_CONFIGURATION as usize;
+    let mut bytes = [0u8; LENGTH as usize];
+    bytes[AT_FORM as usize] = FORM;
+    bytes[at] = configuration[0];
+    bytes[at + 1] = configuration[1];
+    bytes[at + 2] = configuration[2];
+    bytes[at + 3] = configuration[3];
+    bytes[at + 4] = configuration[4];
+    bytes[at + 5] = configuration[5];
+    bytes[at + 6] = configuration[6];
+    bytes[at + 7] = configuration[7];
+    bytes[at + 8] = configuration[8];
+    bytes[at + 9] = configuration[9];
+    bytes
+}
+
+fn put_charge(bytes: &mut Saved, charge: Charge)
+    ensures { λ _. ⌜ now (bytes .exit) ≡ Put.chargePut charge (now (bytes .entry)) ⌝ }
+{
+    put_eight(bytes, AT_HELD, charge.held);
+    put_eight(bytes, AT_DCR, charge.run.dcr);
+    put_two(bytes, AT_LMD, charge.lmd);
+}
+
+fn put_sample(bytes: &mut Saved, sample: Sample)
+    ensures { λ _. ⌜ now (bytes .exit) ≡ Put.samplePut sample (now (bytes .entry)) ⌝ }
+{
+    let current = sample.current;
+    put_two(bytes, AT_CURRENT, signed_pair(current));
+    put_two(bytes, AT_VOLTAGE, sample.voltage);
+    put_two(bytes, AT_TEMPERATURE, sample.temperature);
+}
+
+fn put_host(bytes: &mut Saved, host: Host)
+    ensures { λ _. ⌜ now (bytes .exit) ≡ Put.hostPut host (now (bytes .entry)) ⌝ }
+{
+    put_two(bytes, AT_AR, host.ar);
+    put_one(bytes, AT_MODE, host.mode);
+}
+
+// The bytes of a gauge, accepted or not.
+fn encoded(gauge: Gauge) -> Saved
+    ensures { λ r. ⌜ r ≡ Spec.savedBytes gauge ⌝ }
+{
+    let configuration = gauge.configuration;
+    let charge = gauge.charge;
+    let sample = gauge.sample;
+    let flags = gauge.flags;
+    let host = gauge.host;
+    let byte = flags_byte(sample.current.charging, charge.run.vdq, flags);
+    let mut bytes = headed(configuration);
+    put_charge(&mut bytes, charge);
+    put_two(&mut bytes, AT_STANDBY, gauge.standby);
+    put_sample(&mut bytes, sample);
+    put_host(&mut bytes, host);
+    put_one(&mut bytes, AT_FLAGS, byte);
+    bytes
+}
+
+// 13, or 0 and the bytes in the buffer.
+fn store(gauge: Gauge, buffer: &mut [u8]) -> u32
+    ensures number { λ r. ⌜ r ≡ Spec.lengthRefusal (length (now (buffer .entry))) ⌝ }
+    ensures bytes { λ _. ⌜ now (buffer .exit) ≡ Spec.putAfter gauge (now (buffer .entry)) ⌝ }
+{
+    if buffer.len() != LENGTH as usize {
+        return BUFFER_LENGTH;
+    }
+    let bytes = encoded(gauge);
+    bytes::copy(&bytes, buffer);
+    NONE
+}
+
+// The bytes of a gauge, handed over by its parts, in a buffer of their length, or 13. Nothing is asked of the parts.
+pub fn put(
+    configuration: Configuration,
+    charge: Charge,
+    sample: Sample,
+    standby: u16,
+    flags: Flags,
+    host: Host,
+    buffer: &mut [u8],
+) -> u32
+    ensures number { λ r. ⌜ r ≡ Spec.lengthRefusal (length (now (buffer .entry))) ⌝ }
+    ensures bytes { λ _. ⌜ now (buffer .exit) ≡ Spec.putAfter (Spec.gaugeOf configuration charge sample standby flags host) (now (buffer .entry)) ⌝ }
+{
+    let gauge = Gauge {
+        configuration,
+        charge,
+        sample,
+        standby,
+        flags,
+        host,
+    };
+    store(gauge, buffer)
+}
+
+// 14, 13, or 0 and the bytes in the buffer.
+pub fn save(gauge: Gauge, buffer: &mut [u8]) -> u32
+    ensures number { λ r. ⌜ r ≡ Spec.saveRefusal gauge (length (now (buffer .entry))) ⌝ }
+    ensures bytes { λ _. ⌜ now (buffer .exit) ≡ Spec.bufferAfter gauge (now (buffer .entry)) ⌝ }
+{
+    if !gauge.accepted() {
+        return REJECTED;
+    }
+    store(gauge, buffer)
+}
