@@ -9,7 +9,7 @@ use Rattle.gauge.specs.declared.state.Gauge.{Gauge}
 use Rattle.refusals.specs.Refusal as Refusal
 use Rattle.registers.specs.Reading.{readRefusal, replyAfter}
 use Rattle.saved.specs.Form.{newest}
-use Rattle.saved.specs.Load.{formFits, loadAnswer, loaded, rejectedAnswer}
+use Rattle.saved.specs.Load.{formFits, loaded, rejectedAnswer}
 use Rattle.saved.proofs.LoadLaws.{accepted-loads, misfit-loads, rejected-loads}
 use Rattle.handset.specs.Calls.{readNumber, readReply}
 

@@ -56,6 +56,7 @@ fn put_capacities(gauge: Gauge, bytes: &mut [u8; REGISTER_COUNT])
     requires { ⌜ accepted gauge ≡ true ⌝ }
     ensures { λ _. ⌜ now (bytes .exit) ≡ sets (now (bytes .entry)) 0x0A (registersFrom gauge 0x0A 10) ⌝ }
 {
+    let full = fcac(gauge);
     bytes[0x0A] = flags_byte(
         gauge.sample.current.charging,
         gauge.charge.run.vdq,
@@ -65,7 +66,7 @@ fn put_capacities(gauge: Gauge, bytes: &mut [u8; REGISTER_COUNT])
     put_pair(bytes, 0x0C, nac(gauge));
     put_pair(bytes, 0x0E, gauge.charge.lmd);
     put_pair(bytes, 0x10, cac(gauge));
-    put_pair(bytes, 0x12, fcac(gauge));
+    put_pair(bytes, 0x12, full);
 }
 
 // 0x14 to 0x1D: IAV, TTE, TTF, SI and STTE.

@@ -1,13 +1,12 @@
--- Numbers and lists put into a buffer from a place on, one after the other, are what they make together. Assumes nothing.
-use mathlib.Core.List.{List, [], _∷_, _++_, append-assoc, append-nil}
+-- Numbers put among bytes from a place on, one after the other, are what they make together. Assumes nothing.
+use mathlib.Core.List.{List, [], _∷_, _++_}
 use mathlib.Core.Path.{_≡_, refl, sym, ap, _∙_}
-use Prim.Native.Nat.{ℕ, zero, suc, _+_, _-_, _*_, _/_, _%_, _^_, _≤_, _<_}
+use Prim.Native.Nat.{ℕ, zero, suc, _+_, _*_, _/_, _%_, _^_, _<_}
 use native.Mathlib.Nat.{div-add-mod, div-div-eq-div-mul, div-one, mod-eq-of-lt, mod-lt, mul-add-mod-self-left, mul-assoc, mul-comm, pow-suc, suc-add, zero-add}
 use native.Mathlib.Omega.{arith}
-use lib.ListN.{drop, length, length-drop, length-take, set, take}
-use lib.Seq.{drop-drop, drop-length, sets, sets-eq, take-length}
-use Rattle.numbers.specs.Little.{bytesAt, little}
-use Rattle.numbers.proofs.LittleLaws.{whole}
+use lib.ListN.{length, set}
+use lib.Seq.{sets}
+use Rattle.numbers.specs.Little.{little}
 
 pub sets-append : (l : List ℕ) (i n : ℕ) (xs ys : List ℕ) → length xs ≡ n → sets (sets l i xs) (i + n) ys ≡ sets l i (xs ++ ys)
 sets-append l i n [] ys e =
@@ -72,26 +71,3 @@ parts-put m n l l1 l2 i v p q =
     let low = p ∙ ap (sets l i) (little-low m v) in
     q ∙ ap (λ (x : List ℕ). sets x (i + m) (little n (v / 256 ^ m))) low
     ∙ sets-append l i m (little m v) (little n (v / 256 ^ m)) (little-length m v) ∙ ap (sets l i) (little-append m n v)
-
--- ---- bytes copied into the part of a buffer that was lent
-
-lent-length : (p n : ℕ) (l : List ℕ) → p + n ≤ length l → length (take (p + n - p) (drop p l)) ≡ n
-lent-length p n l h = simp (length-take, length-drop) (omega arith)
-
-pub copy-put : (n p : ℕ) (l xs part : List ℕ) → length xs ≡ n → p + n ≤ length l
-    → part ≡ take (length xs) xs ++ drop (length xs) (take (p + n - p) (drop p l))
-    → take p l ++ (part ++ drop (p + n - p) (drop p l)) ≡ sets l p (bytesAt n 0 xs)
-copy-put n p l xs part e h q =
-    let lent = take (p + n - p) (drop p l) in
-    let full : length xs ≡ length lent = e ∙ sym (lent-length p n l h) in
-    let copied : part ≡ xs =
-    q ∙ ap (λ (r : List ℕ). r ++ drop (length xs) lent) (take-length xs) ∙ ap (λ (k : ℕ). xs ++ drop k lent) full
-    ∙ ap (λ (r : List ℕ). xs ++ r) (drop-length lent) ∙ append-nil xs in
-    let end : p + (p + n - p) ≡ p + length xs = omega arith in
-    let behind : drop (p + n - p) (drop p l) ≡ drop (p + length xs) l = drop-drop (p + n - p) p l ∙ ap (λ (k : ℕ). drop k l) end in
-    let within : p + length xs ≤ length l = omega arith in
-    ap (λ (r : List ℕ). take p l ++ (r ++ drop (p + n - p) (drop p l))) copied
-    ∙ ap (λ (r : List ℕ). take p l ++ (xs ++ r)) behind
-    ∙ sym (append-assoc (take p l) xs (drop (p + length xs) l))
-    ∙ sym (sets-eq xs l p within)
-    ∙ ap (sets l p) (sym (whole n xs e))

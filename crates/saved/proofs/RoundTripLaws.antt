@@ -4,7 +4,7 @@ use mathlib.Core.List.{List}
 use mathlib.Core.Path.{_≡_, refl, sym, ap, _∙_}
 use Prim.Native.Nat.{ℕ, _^_, _<_}
 use native.Mathlib.Omega.{arith}
-use lib.Dec.{T, eqb}
+use lib.Dec.{T}
 use lib.ListN.{getD, length}
 use borrow.Author.Tests.{eq-eqb}
 use Rattle.configuration.specs.Configuration.{dmf}
@@ -16,15 +16,15 @@ use Rattle.gauge.specs.declared.state.Gauge.{Gauge}
 use Rattle.gauge.proofs.AcceptedLaws.{sound}
 use Rattle.numbers.proofs.BoolLaws.{and-left, and-right}
 use Rattle.numbers.proofs.LittleLaws.{number-fits, whole, write-back}
-use Rattle.numbers.specs.Little.{bytesAt, little, numberAt}
+use Rattle.numbers.specs.Little.{bytesAt, little}
 use Rattle.refusals.specs.Refusal as Refusal
 use Rattle.sample.specs.Sample.{currentAccepted}
 use Rattle.saved.proofs.FlagsByteLaws.{byte-accepted, byte-back, byte-fits, flags-back, vdq-back}
-use Rattle.saved.proofs.FormLaws.{field-found, fields-held, has, number-found, one-is}
+use Rattle.saved.proofs.FormLaws.{field-found, fields-held, has, number-found}
 use Rattle.saved.proofs.LoadLaws.{charge-alike, form-first, form-flags, form-length, gauge-alike, host-alike, sample-alike}
 use Rattle.saved.proofs.SaveLaws.{saved-length}
 use Rattle.saved.proofs.SignedLaws.{current-back, pair-back, pair-fits}
-use Rattle.saved.specs.Form.{Ar, Configuration, Current, Dcr, Flags, FormNumber, Held, Lmd, Mode, Name, Standby, Temperature, Voltage, bytesOf, form1, lengthOf, newest, numberOf, placeOf, savedLength, widthOf}
+use Rattle.saved.specs.Form.{Ar, Configuration, Current, Dcr, Flags, FormNumber, Held, Lmd, Mode, Name, Standby, Temperature, Voltage, bytesOf, form1, newest, numberOf, placeOf, savedLength, widthOf}
 use Rattle.saved.specs.Load.{formFits, loadAnswer, loadRefusal, loadable, loaded, loadedCharge, loadedHost, loadedSample, rejectedAnswer}
 use Rattle.saved.specs.RoundTrip.{reloadedAnswer}
 use Rattle.saved.specs.Save.{bufferAfter, fieldBytes, flagsOfGauge, saveRefusal, savedBytes}

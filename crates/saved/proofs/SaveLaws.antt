@@ -12,9 +12,8 @@ use Rattle.gauge.specs.Accepted.{accepted}
 use Rattle.gauge.specs.declared.state.Gauge.{Gauge}
 use Rattle.refusals.specs.Refusal as Refusal
 use Rattle.saved.proofs.FormLaws.{fields-length, fields-put}
-use Rattle.saved.proofs.PutLaws.{copy-put}
-use Rattle.saved.specs.Form.{Flags, FormNumber, Held, Standby, newest, placeOf, savedLength}
-use Rattle.saved.specs.Put.{chargePut, configurationPut, headed, hostPut, numberPut, samplePut}
+use Rattle.saved.specs.Form.{Flags, Standby, newest, savedLength}
+use Rattle.saved.specs.Put.{chargePut, headed, hostPut, numberPut, samplePut}
 use Rattle.saved.specs.Save.{bufferAfter, fieldBytes, flagsOfGauge, lengthRefusal, putAfter, saveRefusal, savedBytes}
 
 -- a list put over a whole one
@@ -23,16 +22,6 @@ whole-put l vs e =
     let h : 0 + length vs ≤ length l = omega arith in
     let n : 0 + length vs ≡ length l = omega arith in
     sets-eq vs l 0 h ∙ ap (λ (k : ℕ). vs ++ drop k l) n ∙ ap (λ (r : List ℕ). vs ++ r) (drop-length l) ∙ append-nil vs
-
--- ---- the head
-
-pub first-length : {b : List ℕ} → b ≡ numberPut FormNumber (newest .number) (replicate savedLength 0) → placeOf Held (newest .fields) ≤ length b
-first-length e = let l = ap length e in omega arith
-
-pub headed-is : (c : List ℕ) {b part : List ℕ} → length c ≡ 10 → b ≡ numberPut FormNumber (newest .number) (replicate savedLength 0)
-    → part ≡ take (length c) c ++ drop (length c) (take 10 (drop 1 b)) → take 1 b ++ (part ++ drop 10 (drop 1 b)) ≡ headed c
-unfolding headed
-headed-is c {b} l e q = copy-put 10 1 b c _ l (first-length e) q ∙ ap (configurationPut c) e
 
 -- ---- the parts
 

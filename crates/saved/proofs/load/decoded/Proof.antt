@@ -1,5 +1,4 @@
 -- The bytes that are read, and what they hold. Assumes nothing.
-use denote.Ref.{now}
 use Rattle.saved.proofs.LoadLaws.{decoded-of}
 use borrow.Author.Needs.{needs}
 use Rattle.saved.proofs.load.decoded.Statement.{statement}
