@@ -45,10 +45,10 @@ pub fn dcmp(configuration: Configuration, current: u16, temperature: u16) -> u32
 {
     let rate = rate_term(configuration, current, temperature);
     let offset = offset_term(configuration);
-    if rate < offset {
-        return 0;
+    if offset <= rate {
+        return ((rate - offset + 32_767) / 32_768) as u32;
     }
-    ((rate - offset + 32_767) / 32_768) as u32
+    0
 }
 
 // A capacity less its compensation, at least 0.

@@ -1,7 +1,7 @@
 -- A difference below 0 is 0, and the ceiling of a quotient adds one less than the divisor. Assumes nothing.
 use native.Mathlib.Omega.{arith}
-use borrow.Author.Needs.{needs}
 use Rattle.compensation.specs.Compensation.{dcmp}
+use borrow.Author.Needs.{needs}
 use Rattle.compensation.proofs.compensation.dcmp.Statement.{statement}
 use Rattle.compensation.proofs.compensation.dcmp.Tie as tie
 
@@ -11,15 +11,15 @@ rate-term-requires c κs = search needs
 offset-term-requires : tie.Need-offset-term-requires
 offset-term-requires c κs = search needs
 
-returns : tie.Need-returns
-unfolding dcmp
-returns c = omega arith
-
 add-result : tie.Need-add-result
 add-result c = omega arith
 
 cast-result : tie.Need-cast-result
 cast-result c = omega arith
+
+returns : tie.Need-returns
+unfolding dcmp
+returns c = omega arith
 
 returns-2 : tie.Need-returns-2
 unfolding dcmp
@@ -28,4 +28,4 @@ returns-2 c = omega arith
 pub dcmp-spec : {M : Type 1} → statement M
 dcmp-spec =
     tie.close
-    (tie.spec rate-term-requires offset-term-requires returns add-result cast-result returns-2)
+    (tie.spec rate-term-requires offset-term-requires add-result cast-result returns returns-2)
