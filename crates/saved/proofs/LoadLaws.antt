@@ -19,7 +19,8 @@ use Rattle.refusals.specs.Refusal as Refusal
 use Rattle.sample.specs.declared.current.Current as Amount
 use Rattle.sample.specs.declared.sample.Sample.{Sample}
 use Rattle.saved.proofs.FormLaws.{one-is}
-use Rattle.saved.specs.Form.{Ar, Configuration, Current, Dcr, Flags, Form, FormNumber, Held, Lmd, Mode, Standby, Temperature, Voltage, bytesOf, form1, lengthOf, newest, numberOf, placeOf, savedLength}
+use Rattle.saved.specs.Form.{Ar, Configuration, Current, Dcr, Flags, FormNumber, Held, Lmd, Mode, Standby, Temperature, Voltage}
+use Rattle.saved.specs.Form.{Form, bytesOf, form1, lengthOf, newest, numberOf, placeOf, savedLength}
 use Rattle.saved.specs.Load.{formFits, decodedGauge, loadAnswer, loadable, loaded, loadedCharge, loadedHost, loadedSample, ofLength, rejectedAnswer}
 use Rattle.saved.specs.Save.{gaugeOf}
 use Rattle.saved.specs.Signed.{currentOf}

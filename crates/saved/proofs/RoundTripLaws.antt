@@ -24,7 +24,8 @@ use Rattle.saved.proofs.FormLaws.{field-found, fields-held, has, number
 use Rattle.saved.proofs.LoadLaws.{charge-alike, form-first, form-flags, form-length, gauge-alike, host-alike, sample-alike}
 use Rattle.saved.proofs.SaveLaws.{saved-length}
 use Rattle.saved.proofs.SignedLaws.{current-back, pair-back, pair-fits}
-use Rattle.saved.specs.Form.{Ar, Configuration, Current, Dcr, Flags, FormNumber, Held, Lmd, Mode, Name, Standby, Temperature, Voltage, bytesOf, form1, newest, numberOf, placeOf, savedLength, widthOf}
+use Rattle.saved.specs.Form.{Ar, Configuration, Current, Dcr, Flags, FormNumber, Held, Lmd, Mode, Standby, Temperature, Voltage}
+use Rattle.saved.specs.Form.{Name, bytesOf, form1, newest, numberOf, placeOf, savedLength, widthOf}
 use Rattle.saved.specs.Load.{formFits, loadAnswer, loadRefusal, loadable, loaded, loadedCharge, loadedHost, loadedSample, rejectedAnswer}
 use Rattle.saved.specs.RoundTrip.{reloadedAnswer}
 use Rattle.saved.specs.Save.{bufferAfter, fieldBytes, flagsOfGauge, saveRefusal, savedBytes}

@@ -28,7 +28,11 @@ use Rattle.examples.proofs.proved_examples.Statement.{statement}
 use Rattle.examples.proofs.proved_examples.Tie as tie
 
 returns : tie.Need-returns
-unfolding chargeAccepted emptied filled heldMoved leaked moved openedCharge runMoved taught withoutRun decide decideA9 highestCommandBit dcmp dt minutes offsetTerm rateTerm dcompTaken openedMode flagsByte atEdv1 atEdvf atTaught clearedIf accepted windowAnswer openAnswer openRefusal opened reachedIn summed window band leak leakRate reached weight learned drained runAccepted unlessPassed fullIf openedHost endingOf mayTeach isFull chargeEnded chargeReached filledIf flagsEnded reachedBy tte cac reduction rsoc charge counted discharge zeroOrWithin between currentInRange valueBetween currentAccepted noSample sampleAccepted averaged standbyAccepted
+unfolding chargeAccepted emptied filled heldMoved leaked moved openedCharge runMoved taught withoutRun decide decideA9 highestCommandBit
+    dcmp dt minutes offsetTerm rateTerm dcompTaken openedMode flagsByte atEdv1 atEdvf atTaught clearedIf accepted windowAnswer openAnswer
+    openRefusal opened reachedIn summed window band leak leakRate reached weight learned drained runAccepted unlessPassed fullIf openedHost
+    endingOf mayTeach isFull chargeEnded chargeReached filledIf flagsEnded reachedBy tte cac reduction rsoc charge counted discharge
+    zeroOrWithin between currentInRange valueBetween currentAccepted noSample sampleAccepted averaged standbyAccepted
 returns c =
     record {
       bench-lmd = refl;

@@ -28,7 +28,12 @@ use Rattle.examples.proofs.proved_rows.Statement.{statement}
 use Rattle.examples.proofs.proved_rows.Tie as tie
 
 returns : tie.Need-returns
-unfolding chargeAccepted emptied filled heldMoved leaked moved openedCharge runMoved taught withoutRun decide decide56 decideA9 highestCommandBit dcmp dt minutes offsetTerm rateTerm dcompTaken openedMode flagsByte atEdv1 atEdvf atTaught clearedIf accepted storedAt windowAnswer writeAnswer writeRefusal written openAnswer openRefusal opened reachedIn summed window band leak leakRate reached weight learned drained runAccepted unlessPassed commandsCleared fullIf initCleared openedHost stored endingOf mayTeach isFull chargeEnded chargeReached filledIf flagsEnded reachedBy artte stte tte ttf cac fcac reduction charge counted discharge zeroOrWithin between currentInRange valueBetween currentAccepted noSample sampleAccepted averaged standbyAccepted
+unfolding chargeAccepted emptied filled heldMoved leaked moved openedCharge runMoved taught withoutRun decide decide56 decideA9
+    highestCommandBit dcmp dt minutes offsetTerm rateTerm dcompTaken openedMode flagsByte atEdv1 atEdvf atTaught clearedIf accepted storedAt
+    windowAnswer writeAnswer writeRefusal written openAnswer openRefusal opened reachedIn summed window band leak leakRate reached weight
+    learned drained runAccepted unlessPassed commandsCleared fullIf initCleared openedHost stored endingOf mayTeach isFull chargeEnded
+    chargeReached filledIf flagsEnded reachedBy artte stte tte ttf cac fcac reduction charge counted discharge zeroOrWithin between
+    currentInRange valueBetween currentAccepted noSample sampleAccepted averaged standbyAccepted
 returns c =
     record {
       e1-margin = refl;

@@ -28,7 +28,8 @@ returns c =
     let first = second .before .before .before .before in
     let entry = first .before .before .before in
     let f = entry .fits in
-    registers-put _ _ _ _ (f .nac) (f .lmd) (f .rsoc) (f .flags) _ _ _ _ _ _ _ _ _ _ (entry .pre) (first .put-number .ensures) (second .put-number2 .ensures) (third .put-number3 .ensures) (fourth .put-number4 .ensures)
+    registers-put _ _ _ _ (f .nac) (f .lmd) (f .rsoc) (f .flags) _ _ _ _ _ _ _ _ _ _ (entry .pre)
+    (first .put-number .ensures) (second .put-number2 .ensures) (third .put-number3 .ensures) (fourth .put-number4 .ensures)
 
 pub put-registers-spec : {M : Type 1} → statement M
 put-registers-spec =

@@ -74,7 +74,9 @@ returns c =
     let p2 = p3 .before in
     let p1 = p2 .before in
     let a = p1 .before .before .args in
-    ten-are (now (a .bytes)) (a .place) _ _ _ _ _ _ _ _ _ _ (p1 .byte-at .ensures) (p2 .byte-at2 .ensures) (p3 .byte-at3 .ensures) (p4 .byte-at4 .ensures) (p5 .byte-at5 .ensures) (p6 .byte-at6 .ensures) (p7 .byte-at7 .ensures) (p8 .byte-at8 .ensures) (p9 .byte-at9 .ensures) (c .byte-at10 .ensures)
+    ten-are (now (a .bytes)) (a .place) _ _ _ _ _ _ _ _ _ _ (p1 .byte-at .ensures) (p2 .byte-at2 .ensures) (p3 .byte-at3 .ensures)
+    (p4 .byte-at4 .ensures) (p5 .byte-at5 .ensures) (p6 .byte-at6 .ensures) (p7 .byte-at7 .ensures)
+    (p8 .byte-at8 .ensures) (p9 .byte-at9 .ensures) (c .byte-at10 .ensures)
 
 pub ten-at-spec : {M : Type 1} → statement M
 ten-at-spec =

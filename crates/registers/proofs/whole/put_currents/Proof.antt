@@ -14,7 +14,9 @@ put-pair-requires-2 : tie.Need-put-pair-requires-2
 put-pair-requires-2 c κs = search needs
 
 ttf-requires : tie.Need-ttf-requires
-ttf-requires c κs = let p = c .before .before .before in p .before .before .before .pre
+ttf-requires c κs =
+    let p = c .before .before .before in
+    p .before .before .before .pre
 
 put-pair-requires-3 : tie.Need-put-pair-requires-3
 put-pair-requires-3 c κs = search needs

@@ -33,7 +33,8 @@ returns c =
     let p2 = p3 .before .before in
     let p1 = p2 .before .before in
     let f = p1 .before in
-    encoded-is (f .before .before .before .before .before .before .args .gauge) (p1 .headed .ensures) (p2 .put-charge .ensures) (p3 .put-two .ensures)
+    let g = f .before .before .before .before .before in
+    encoded-is (g .before .args .gauge) (p1 .headed .ensures) (p2 .put-charge .ensures) (p3 .put-two .ensures)
     (p4 .put-sample .ensures) (p5 .put-host .ensures) (f .flags-byte .ensures) (c .put-one .ensures)
 
 pub encoded-spec : {M : Type 1} → statement M

@@ -18,7 +18,7 @@ returns-2 c = simp (sym (c .before .before .passes .ensures) ∙ c .before .if1 
 
 returns-3 : tie.Need-returns-3
 unfolding runAccepted
-returns-3 c = simp (sym (c .before .before .before .passes .ensures) ∙ c .before .before .if1 .left, c .before .if2 .left)
+returns-3 c = let p = c .before .before in simp (sym (p .before .passes .ensures) ∙ p .if1 .left, c .before .if2 .left)
 
 pub accepted-spec : {M : Type 1} → statement M
 accepted-spec = tie.close (tie.spec passes-requires returns returns-2 returns-3)

@@ -38,7 +38,11 @@ returns-2 c = simp (c .enum-told2 .given .1)
 
 returns-3 : tie.Need-returns-3
 unfolding readAs
-returns-3 c = simp (c .before .before .before .before .before .self .given .1, c .three .ensures, c .before .number3 .ensures, c .before .before .number2 .ensures, c .before .before .before .number .ensures)
+returns-3 c =
+    let third = c .before in
+    let second = third .before in
+    let first = second .before in
+    simp (first .before .before .self .given .1, c .three .ensures, third .number3 .ensures, second .number2 .ensures, first .number .ensures)
 
 returns-4 : tie.Need-returns-4
 unfolding readAs
