@@ -7,7 +7,7 @@ use Prim.Native.Nat.{ℕ}
 use lib.Dec.{eqb}
 use Rattle.bench_output.specs.Output.{textOf}
 use Rattle.bench_output.specs.declared.output.Output.the-variants.{Nothing}
-use Rattle.bench_window.specs.Answer.{answered}
+use Rattle.bench_window.specs.Answer.{lineAnswered}
 use Rattle.gauge.specs.declared.state.Gauge.{Gauge}
 use Rattle.lines.proofs.LineLaws.{line-read, fed-one}
 use Rattle.lines.proofs.TextLaws.{attached, attached-newline, attached-byte}
@@ -44,15 +44,15 @@ listed-ends : (g : Gauge) (p : List ℕ) → printedFrom (listed g p) [] ≡ lis
 unfolding printedFrom printedAt fedAll lastOutput lastOutputAt lineOutput textOf listPrinted
 listed-ends g [] = refl
 listed-ends g (x ∷ p) =
-    ap (λ (l : Line). textOf (answered g l .output)) (line-read (x ∷ p)) ∙ sym (append-nil (textOf (answered g (line (x ∷ p)) .output)))
+    ap (λ (l : Line). textOf (lineAnswered g l .output)) (line-read (x ∷ p)) ∙ sym (append-nil (textOf (lineAnswered g (line (x ∷ p)) .output)))
 
 listed-newline : (g : Gauge) (p bs : List ℕ) → ((h : Gauge) → printedFrom (listed h []) bs ≡ listPrinted h (linesOf bs))
-    → stepThen (step (answered g (readAs (reading p)) .gauge) fresh (answered g (readAs (reading p)) .output)) bs
+    → stepThen (step (lineAnswered g (readAs (reading p)) .gauge) fresh (lineAnswered g (readAs (reading p)) .output)) bs
     ≡ listPrinted g (attached p ([] ∷ linesOf bs))
 unfolding listPrinted readAll
 listed-newline g p bs rest =
-    ap (λ (l : Line). stepThen (step (answered g l .gauge) fresh (answered g l .output)) bs) (line-read p)
-    ∙ ap (λ (l : List ℕ). textOf (answered g (line p) .output) ++ l) (rest (answered g (line p) .gauge))
+    ap (λ (l : Line). stepThen (step (lineAnswered g l .gauge) fresh (lineAnswered g l .output)) bs) (line-read p)
+    ∙ ap (λ (l : List ℕ). textOf (lineAnswered g (line p) .output) ++ l) (rest (lineAnswered g (line p) .gauge))
     ∙ sym (ap (λ (ls : List (List ℕ)). listPrinted g ls) (attached-newline p (linesOf bs)))
 
 listed-byte : (g : Gauge) (p : List ℕ) (b : ℕ) (bs : List ℕ)
@@ -71,7 +71,7 @@ listed-prints g p [] = listed-ends g p
 listed-prints g p (b ∷ bs) = byte-then-rest (listed g p) b bs ∙ go (eqb b 10) (λ h q. listed-prints h q bs)
   where
     go : (t : Bool) → ((h : Gauge) (q : List ℕ) → printedFrom (listed h q) bs ≡ listPrinted h (attached q (linesOf bs)))
-        → stepThen (cond t (step (answered g (readAs (reading p)) .gauge) fresh (answered g (readAs (reading p)) .output)) (step g (Listed true (readOn (reading p) b)) Nothing)) bs
+        → stepThen (cond t (step (lineAnswered g (readAs (reading p)) .gauge) fresh (lineAnswered g (readAs (reading p)) .output)) (step g (Listed true (readOn (reading p) b)) Nothing)) bs
         ≡ listPrinted g (attached p (cond t ([] ∷ linesOf bs) (before b (linesOf bs))))
     go true rest = listed-newline g p bs (λ h. rest h [])
     go false rest = listed-byte g p b bs (rest g (p ++ (b ∷ [])))

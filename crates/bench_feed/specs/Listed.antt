@@ -4,7 +4,7 @@ use Prim.Native.Nat.{ℕ}
 use lib.Dec.{eqb}
 use Rattle.bench_output.specs.declared.output.Output.{Output}
 use Rattle.bench_output.specs.declared.output.Output.the-variants.{Nothing}
-use Rattle.bench_window.specs.Answer.{answered}
+use Rattle.bench_window.specs.Answer.{lineAnswered}
 use Rattle.gauge.specs.declared.state.Gauge.{Gauge}
 use Rattle.lines.specs.Reading as Reading′
 use Rattle.lines.specs.declared.line.Reading.{Reading}
@@ -24,9 +24,9 @@ fresh = Listed false Reading′.start
 unfoldable pub fedListed : Gauge → Reading → ℕ → Step
 fedListed g r b =
     cond (eqb b 10)
-    (step (answered g (Reading′.readAs r) .gauge) fresh (answered g (Reading′.readAs r) .output))
+    (step (lineAnswered g (Reading′.readAs r) .gauge) fresh (lineAnswered g (Reading′.readAs r) .output))
     (step g (Listed true (Reading′.fed r b)) Nothing)
 
 -- the end of the input: "A last newline begins no further line."
 unfoldable pub lineOutput : Gauge → Bool → Reading → Output
-lineOutput g begun r = cond begun (answered g (Reading′.readAs r) .output) Nothing
+lineOutput g begun r = cond begun (lineAnswered g (Reading′.readAs r) .output) Nothing

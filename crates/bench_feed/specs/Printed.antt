@@ -4,7 +4,7 @@ use mathlib.Core.List.{List, [], _∷_, _++_}
 use Prim.Native.Nat.{ℕ}
 use lib.Dec.{eqb}
 use Rattle.bench_output.specs.Output.{textOf, headingText, namesText}
-use Rattle.bench_window.specs.Answer.{answered}
+use Rattle.bench_window.specs.Answer.{lineAnswered}
 use Rattle.configuration.specs.BenchPack.{benchPack}
 use Rattle.gauge.specs.Opening.{openAnswer}
 use Rattle.gauge.specs.declared.state.Gauge.{Gauge}
@@ -29,7 +29,7 @@ sameBytes (x ∷ xs) (y ∷ ys) = eqb x y && sameBytes xs ys
 -- "After the heading each window prints ..": the lines below the names line, from a gauge on
 unfoldable pub listPrinted : Gauge → List (List ℕ) → List ℕ
 listPrinted g [] = []
-listPrinted g (l ∷ ls) = textOf (answered g (line l) .output) ++ listPrinted (answered g (line l) .gauge) ls
+listPrinted g (l ∷ ls) = textOf (lineAnswered g (line l) .output) ++ listPrinted (lineAnswered g (line l) .gauge) ls
 
 -- "Another first line prints `names` in place of the heading and ends it." Where there is no line there is no names line
 unfoldable pub linesPrinted : Gauge → List (List ℕ) → List ℕ

@@ -12,15 +12,15 @@ use Rattle.gauge.specs.declared.state.Gauge.{Gauge}
 use Rattle.lines.proofs.SignedLaws.{narrow}
 use Rattle.lines.specs.declared.line.Line.{Line}
 use Rattle.lines.specs.declared.line.Line.the-variants.{Numbers}
-use Rattle.bench_window.specs.Answer.{answerOutput, answered}
+use Rattle.bench_window.specs.Answer.{answerOutput, lineAnswered}
 use Rattle.bench_window.specs.declared.answer.Answered.{Answered}
 
 pub answered-is : (g : Gauge) (a v t : ℤ) → mag a < 2 ^ 31 → mag v < 2 ^ 31 → mag t < 2 ^ 31
     → (l : Line) → l ≡ Numbers a v t
     → (r : Answer) → r ≡ windowAnswer g (toZ w32 (ofZ w32 a)) (toZ w32 (ofZ w32 v)) (toZ w32 (ofZ w32 t))
     → (s : Output) → s ≡ answerOutput (r .number) (r .gauge)
-    → _≡_ {A = Answered} (record { gauge = r .gauge; output = s }) (answered g l)
-unfolding answered
+    → _≡_ {A = Answered} (record { gauge = r .gauge; output = s }) (lineAnswered g l)
+unfolding lineAnswered
 answered-is g a v t ha hv ht l el r er s es =
     let e : r ≡ windowAnswer g a v t = er ∙ simp (narrow a ha, narrow v hv, narrow t ht) in
     simp (el, es, e)

@@ -16,10 +16,10 @@ unfoldable pub answerOutput : ℕ → Gauge → Output
 answerOutput number g = cond (eqb number 0) (registersOutput g) (Refused number)
 
 -- "A line that is not three whole numbers prints `unread`"
-unfoldable pub answered : Gauge → Line → Answered
-answered g (Line′.Numbers a v t) =
+unfoldable pub lineAnswered : Gauge → Line → Answered
+lineAnswered g (Line′.Numbers a v t) =
     record {
       gauge = windowAnswer g a v t .gauge;
       output = answerOutput (windowAnswer g a v t .number) (windowAnswer g a v t .gauge);
     }
-answered g Line′.Unread = record { gauge = g; output = Unread }
+lineAnswered g Line′.Unread = record { gauge = g; output = Unread }

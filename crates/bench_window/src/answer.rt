@@ -24,7 +24,7 @@ fn answer_output(number: u32, gauge: Gauge) -> Output
 
 // A line as it is read: its window, or none where it is not three whole numbers.
 pub fn answer_line(gauge: Gauge, line: Line) -> Answered
-    ensures { λ r. ⌜ r ≡ Spec.answered gauge line ⌝ }
+    ensures { λ r. ⌜ r ≡ Spec.lineAnswered gauge line ⌝ }
 {
     let Line::Numbers(a, v, t) = line else {
         return Answered {

@@ -17,7 +17,7 @@ use Rattle.registers.specs.Values.{cac, flags, nac, rsoc}
 use Rattle.registers.specs.Times.{tte}
 use Rattle.sample.specs.Current.{counted, noCurrent}
 use Rattle.sample.specs.Range.{current}
-use Rattle.examples.specs.Bench.{afterWindow, benchTerms, lineOne, lineTwo, lineThree}
+use Rattle.examples.specs.Bench.{afterSample, benchTerms, lineOne, lineTwo, lineThree}
 
 pub record Examples : Type 0 where
   -- "So LMD 1,024, EDVF 2,800, E1 3,000, S0 10, DMF 2."
@@ -46,8 +46,8 @@ pub record Examples : Type 0 where
   pub iav-20 : endingOf benchTerms true 20 3_000 1_192 ≡ Edv1
   pub iav-21 : endingOf benchTerms true 21 3_000 1_192 ≡ Qualified
   -- "v 3,000 sets EDV1, 3,001 not": after line two, a discharge of 3,000
-  pub v-3000 : (afterWindow lineTwo (negsuc 2_999) (pos 3_000) (pos 1_192)) .flags .edv1 ≡ true
-  pub v-3001 : (afterWindow lineTwo (negsuc 2_999) (pos 3_001) (pos 1_192)) .flags .edv1 ≡ false
+  pub v-3000 : (afterSample lineTwo (negsuc 2_999) (pos 3_000) (pos 1_192)) .flags .edv1 ≡ true
+  pub v-3001 : (afterSample lineTwo (negsuc 2_999) (pos 3_001) (pos 1_192)) .flags .edv1 ≡ false
   -- "MODE 0x35 with 0xA9 is WRTNAC"
   pub mode-35 : decide 0xA9 0x35 0 ≡ Obey Wrtnac
   -- the bench program's lines: NAC, LMD, RSOC and FLAGS

@@ -23,7 +23,7 @@ use Rattle.registers.specs.Values.{fcac, flags, nac}
 use Rattle.registers.specs.Times.{artte, stte, tte, ttf}
 use Rattle.sample.specs.Standby.{averaged}
 use Rattle.sample.specs.declared.current.Current.{Current}
-use Rattle.examples.specs.Bench.{afterWindow, benchTerms, lineTwo, lineThree, withAr}
+use Rattle.examples.specs.Bench.{afterSample, benchTerms, lineTwo, lineThree, withAr}
 
 abbrev charging : ℕ → Current
 charging n = record { charging = true; magnitude = n }
@@ -83,12 +83,12 @@ pub record Rows : Type 0 where
   pub full-low : isFull benchTerms (charging 32) 4_099 0 1_024 ≡ false
   pub full-drawn : isFull benchTerms (record { charging = false; magnitude = 0 }) 4_100 138_240_000_000 1_024 ≡ false
   -- after line three 28,011 units charge 5,378,112,000 grains, past LMD × G: full, with CHGS, CI and VDQ
-  pub full-held : (afterWindow lineThree (pos 28_011) (pos 3_700) (pos 1_192)) .charge .held ≡ 138_240_000_000
-  pub full-flags : flags (afterWindow lineThree (pos 28_011) (pos 3_700) (pos 1_192)) ≡ 148
+  pub full-held : (afterSample lineThree (pos 28_011) (pos 3_700) (pos 1_192)) .charge .held ≡ 138_240_000_000
+  pub full-flags : flags (afterSample lineThree (pos 28_011) (pos 3_700) (pos 1_192)) ≡ 148
   -- FCAC after line three: 1,024 − 127
   pub fcac-897 : fcac lineThree ≡ 897
   -- TTF, 100 units charging at NAC 1,019: 90 × 5 / 100; with the wrong sign 65,535
-  pub ttf-4 : ttf (afterWindow lineThree (pos 100) (pos 3_700) (pos 1_192)) ≡ 4
+  pub ttf-4 : ttf (afterSample lineThree (pos 100) (pos 3_700) (pos 1_192)) ≡ 4
   pub ttf-drawn : ttf lineThree ≡ 65_535
   pub tte-charging : tte lineTwo ≡ 65_535
   -- STTE after line three: 60 × 1,019 / 10

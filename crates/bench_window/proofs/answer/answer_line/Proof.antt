@@ -1,5 +1,5 @@
 -- An unread line leaves the gauge. Three numbers are a window's, and what is printed is what its answer gives. Assumes nothing.
-use Rattle.bench_window.specs.Answer.{answered}
+use Rattle.bench_window.specs.Answer.{lineAnswered}
 use Rattle.bench_window.proofs.AnswerLaws.{answered-is}
 use borrow.Author.Needs.{needs}
 use Rattle.bench_window.proofs.answer.answer_line.Statement.{statement}
@@ -12,7 +12,7 @@ enum-told : tie.Need-enum-told
 enum-told c = search needs
 
 returns : tie.Need-returns
-unfolding answered
+unfolding lineAnswered
 returns c = simp (c .enum-told .given .1)
 
 window-requires : tie.Need-window-requires
