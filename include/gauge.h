@@ -1,17 +1,17 @@
 /*
- * The battery gauge's five calls for C and C++ firmware.
+ * The battery gauge's five calls for C (C99 and later) and C++ firmware.
  *
  * The firmware owns the gauge: 41 bytes that it keeps in RAM and copies to non-volatile memory as it likes. Every call
  * gets those bytes and keeps nothing between calls: no writable static data, no allocation. So a gauge may be copied, and two
- * gauges may be used from two threads. One gauge must not be used by two calls at once.
+ * gauges may be used from two threads. One gauge must not be used by two calls at once, nor by an interrupt during a call.
  *
  * Every call answers 0 (GAUGE_OK) or one number of enum gauge_refusal. A refused call changes no byte of any buffer.
  * No argument needs a test beforehand, with one exception: a pointer must be valid for the length handed in with it, also
  * where that length is wrong for the call, must not be null, and the two buffers of one call must not overlap.
  *
  * Units: a unit of current is 3.57 uV over the sense resistor, a count of charge 3.57 uVh, a voltage is in mV, a temperature in
- * quarter kelvins (25 degrees Celsius is 1192). 3.57 divided by the sense resistor in milliohms is the mA of a unit and the mAh
- * of a count: with 20 milliohms a unit is 0.1785 mA and a count 0.1785 mAh. Register pairs stand low byte first.
+ * quarter kelvins, 4 * (degrees Celsius + 273): 25 degrees are 1192. 3.57 divided by the sense resistor in milliohms is the mA of a
+ * unit and the mAh of a count: with 20 milliohms a unit is 0.1785 mA and a count 0.1785 mAh. Register pairs stand low byte first.
  */
 #ifndef GAUGE_H
 #define GAUGE_H
@@ -22,6 +22,13 @@
 #ifdef __cplusplus
 extern "C" {
 #endif
+
+/* The version of the calls and of this file; a new minor one adds, a new major one changes. */
+#define GAUGE_VERSION "1.0.0"
+#define GAUGE_VERSION_NUMBER 10000 /* 10000 * major + 100 * minor + the rest */
+
+/* The form of the saved bytes, which is their first byte. */
+#define GAUGE_FORM 1
 
 #define GAUGE_CONFIGURATION_LENGTH 10
 #define GAUGE_SAVED_LENGTH 41
@@ -94,18 +101,23 @@ enum gauge_flag {
     GAUGE_FLAG_EDVF = 0x01  /* discharged to the final voltage: empty */
 };
 
-/* Command bits of MODE. The highest one set is obeyed when its key is written to CTRL. */
+/* Command bits of MODE. The highest one set is obeyed when its key is written to CTRL; the other three bits are no commands. */
 enum gauge_command {
-    GAUGE_MODE_WRTNAC = 0x20, /* key 0xA9: NAC = the smaller of AR and LMD */
-    GAUGE_MODE_DONE = 0x10,   /* key 0xA9: full, the charger says so */
-    GAUGE_MODE_PRST = 0x08,   /* key 0xA9: as opened, but charge, LMD and CI are kept */
-    GAUGE_MODE_FRST = 0x02,   /* key 0xA9: as opened */
-    GAUGE_MODE_WRTLMD = 0x01  /* key 0x56: LMD = AR */
+    GAUGE_MODE_WRTNAC = 0x20,      /* NAC = the smaller of AR and LMD */
+    GAUGE_MODE_DONE = 0x10,        /* full, the charger says so */
+    GAUGE_MODE_PRST = 0x08,        /* as opened, but charge, LMD and CI are kept */
+    GAUGE_MODE_FRST = 0x02,        /* as opened */
+    GAUGE_MODE_WRTLMD = 0x01,      /* LMD = AR */
+    GAUGE_MODE_COMMAND_BITS = 0x3B /* the five together */
 };
 
+/* The key of each command, to be written to CTRL. */
 enum gauge_key {
-    GAUGE_KEY_A9 = 0xA9,
-    GAUGE_KEY_56 = 0x56
+    GAUGE_KEY_WRTNAC = 0xA9,
+    GAUGE_KEY_DONE = 0xA9,
+    GAUGE_KEY_PRST = 0xA9,
+    GAUGE_KEY_FRST = 0xA9,
+    GAUGE_KEY_WRTLMD = 0x56
 };
 
 /*
@@ -113,7 +125,7 @@ enum gauge_key {
  * Success fills the 41 bytes at saved; what stood there does not matter.
  * Refuses, in this order: 1, 2, 13.
  */
-uint32_t gauge_open(const uint8_t *configuration, size_t length, uint8_t *saved, size_t saved_length);
+uint32_t gauge_open(const uint8_t *configuration, size_t configuration_length, uint8_t *saved, size_t saved_length);
 
 /*
  * One window of 5.12 s. current is the window's average in units, positive charging; voltage in mV; temperature in quarter
@@ -131,8 +143,8 @@ uint32_t gauge_rest(uint8_t *saved, size_t saved_length, uint32_t windows, int32
 
 /*
  * The host writes one byte: MODE (0x01), AR (0x02 low, 0x03 high) or a key to CTRL (0x00). A command is: write AR where it needs
- * one, write its bit to MODE, write its key to CTRL. A command carried out clears the command bits of MODE; a refused key
- * leaves them. Success leaves the gauge after the write in saved.
+ * one, write MODE with its bit for the command bits and the others as they were read, write its key to CTRL. A command carried out
+ * clears the command bits of MODE; a refused key leaves them. Success leaves the gauge after the write in saved.
  * Refuses, in this order: 14, 7, 8, 9, 10, 11.
  */
 uint32_t gauge_write(uint8_t *saved, size_t saved_length, uint32_t address, uint8_t value);
@@ -144,6 +156,51 @@ uint32_t gauge_write(uint8_t *saved, size_t saved_length, uint32_t address, uint
  */
 uint32_t gauge_read(const uint8_t *saved, size_t saved_length, uint32_t address, uint32_t count, uint8_t *reply,
                     size_t reply_length, uint32_t place);
+
+/* The number in a pair of registers, whose low byte is at low. */
+static inline unsigned gauge_pair(const uint8_t *low)
+{
+    return low[0] + 256u * low[1];
+}
+
+/* What a call's number means, in a few words. */
+static inline const char *gauge_refusal_text(uint32_t number)
+{
+    switch (number) {
+    case GAUGE_OK:
+        return "done";
+    case GAUGE_REFUSED_CONFIGURATION_LENGTH:
+        return "configuration of another length";
+    case GAUGE_REFUSED_ILMD_ZERO:
+        return "design capacity 0";
+    case GAUGE_REFUSED_CURRENT:
+        return "current out of range";
+    case GAUGE_REFUSED_VOLTAGE:
+        return "voltage out of range";
+    case GAUGE_REFUSED_TEMPERATURE:
+        return "temperature out of range";
+    case GAUGE_REFUSED_REST_LENGTH:
+        return "rest length out of range";
+    case GAUGE_REFUSED_ADDRESS:
+        return "address not writable";
+    case GAUGE_REFUSED_KEY:
+        return "no key of a command";
+    case GAUGE_REFUSED_NO_COMMAND:
+        return "no command bit in MODE";
+    case GAUGE_REFUSED_NOT_CARRIED:
+        return "command not carried by this key";
+    case GAUGE_REFUSED_LMD_ZERO:
+        return "WRTLMD with AR 0";
+    case GAUGE_REFUSED_COUNT:
+        return "count 0, or registers past the last one";
+    case GAUGE_REFUSED_REPLY:
+        return "reply or save buffer of the wrong length";
+    case GAUGE_REFUSED_SAVED:
+        return "saved bytes are no gauge";
+    default:
+        return "no number of this gauge";
+    }
+}
 
 #ifdef __cplusplus
 }

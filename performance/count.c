@@ -30,7 +30,9 @@ int main(int arguments, char **argument)
     unsigned long times = strtoul(argument[2], NULL, 10);
     uint32_t numbers = start();
 
-    if (strcmp(kind, "window") == 0)
+    if (strcmp(kind, "open") == 0)
+        REPEAT(gauge_open(bench_pack, sizeof bench_pack, saved, sizeof saved));
+    else if (strcmp(kind, "window") == 0)
         REPEAT(gauge_window(saved, sizeof saved, -3000, 3600, 1192));
     else if (strcmp(kind, "read-2") == 0)
         REPEAT(gauge_read(saved, sizeof saved, GAUGE_REG_NAC, 2, reply, sizeof reply, 0));

@@ -2,9 +2,9 @@
  * each function here. */
 #include "gauge.h"
 
-uint32_t gauge_open(const uint8_t *configuration, size_t length, uint8_t *saved, size_t saved_length)
+uint32_t gauge_open(const uint8_t *configuration, size_t configuration_length, uint8_t *saved, size_t saved_length)
 {
-    (void)configuration, (void)length, (void)saved, (void)saved_length;
+    (void)configuration, (void)configuration_length, (void)saved, (void)saved_length;
     return GAUGE_OK;
 }
 

@@ -178,7 +178,7 @@ impl Counts {
 
 /// Prints one row; 1 if the event never occurred in a part in which it has to.
 fn print_row(name: &str, counts: &[u64; 4], parts: &[Part], texts_compared: bool) -> usize {
-    let mut cells = String::new();
+    print!("{name:60}");
     let mut missing = false;
     for part in PARTS {
         let count = counts[part as usize];
@@ -189,8 +189,8 @@ fn print_row(name: &str, counts: &[u64; 4], parts: &[Part], texts_compared: bool
             (0, false) => String::from("-"),
             _ => count.to_string(),
         };
-        cells += &format!(" {cell:>12}");
+        print!(" {cell:>12}");
     }
-    println!("{name:60}{cells}");
+    println!();
     usize::from(missing)
 }

@@ -82,7 +82,7 @@ fn window(counts: &mut Counts, part: Part, before: &Standing, a: i32, v: i32, t:
         return charging(counts, part, before, c, v, h);
     }
     let drained = before.run.map(|r| r + leaked - GRAINS_PER_UNIT * i64::from(c));
-    let passes = drained.is_some_and(|r| r > GREATEST_DRAIN);
+    let passes = matches!(drained, Some(r) if r > GREATEST_DRAIN);
     counts.add_if(part, Event::DrainAtGreatest, drained == Some(GREATEST_DRAIN));
     counts.add_if(part, Event::PassesIdle, passes && c == 0);
     if c < 0 {
@@ -164,12 +164,14 @@ fn write(counts: &mut Counts, part: Part, before: &Standing, address: u32, value
     counts.add_if(part, Event::WriteMode, address == command::MODE);
     counts.add_if(part, Event::WriteArLow, address == command::AR_LOW);
     counts.add_if(part, Event::WriteArHigh, address == command::AR_HIGH);
-    if address != command::CTRL {
-        return;
+    if address == command::CTRL {
+        if let Ok(picked) = command::decide(value, before.mode, before.ar) {
+            carried_out(counts, part, before, picked);
+        }
     }
-    let Ok(picked) = command::decide(value, before.mode, before.ar) else {
-        return;
-    };
+}
+
+fn carried_out(counts: &mut Counts, part: Part, before: &Standing, picked: Command) {
     let event = match picked {
         Command::Wrtnac => Event::Wrtnac,
         Command::Done => Event::Done,

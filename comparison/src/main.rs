@@ -26,6 +26,7 @@ mod writer;
 use counts::{Counts, Part};
 use options::{Options, USAGE};
 use random::Random;
+use std::path::Path;
 use std::process::ExitCode;
 
 /// Of the calls, those in lists from opening; the others are made on gauges handed in.
@@ -62,7 +63,9 @@ fn compare(options: &Options, counts: &mut Counts) -> Result<Done, ()> {
     let (in_lists, left) = compare_lists(options.seed, wanted, counts)?;
     let on_gauges = compare_gauges(options.seed, options.calls.saturating_sub(in_lists), counts)?;
     compare_damaged(options.seed, options.damaged, &left, counts)?;
-    compare_texts(options, counts)?;
+    if let Some(bench) = &options.bench {
+        compare_texts(bench, options, counts)?;
+    }
     Ok(Done { in_lists, on_gauges })
 }
 
@@ -111,10 +114,7 @@ fn compare_damaged(seed: u64, wanted: u64, left: &[Vec<u8>], counts: &mut Counts
     Ok(())
 }
 
-fn compare_texts(options: &Options, counts: &mut Counts) -> Result<(), ()> {
-    let Some(bench) = &options.bench else {
-        return Ok(());
-    };
+fn compare_texts(bench: &Path, options: &Options, counts: &mut Counts) -> Result<(), ()> {
     for index in 0..options.texts {
         let mut random = Random::part(options.seed, (3 << 62) + index);
         let text = texts::text(&mut random);

@@ -3,21 +3,8 @@
 const GUARD: usize = 16;
 const GUARD_BYTE: u8 = 0xC3;
 
-extern "C" {
-    fn gauge_open(configuration: *const u8, length: usize, saved: *mut u8, saved_length: usize) -> u32;
-    fn gauge_window(saved: *mut u8, saved_length: usize, current: i32, voltage: i32, temperature: i32) -> u32;
-    fn gauge_rest(saved: *mut u8, saved_length: usize, windows: u32, temperature: i32) -> u32;
-    fn gauge_write(saved: *mut u8, saved_length: usize, address: u32, value: u8) -> u32;
-    fn gauge_read(
-        saved: *const u8,
-        saved_length: usize,
-        address: u32,
-        count: u32,
-        reply: *mut u8,
-        reply_length: usize,
-        place: u32,
-    ) -> u32;
-}
+// The calls as include/gauge.h declares them.
+include!(concat!(env!("OUT_DIR"), "/prototypes.rs"));
 
 /// Bytes lent to a call, with guard bytes on both sides that no call may change.
 #[derive(Clone)]

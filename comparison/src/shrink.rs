@@ -125,8 +125,9 @@ impl Search {
 
     /// Tries the simplest value of an argument, then ever smaller steps towards it.
     fn simplify_argument(&mut self, trial: &mut Trial, index: usize, field: usize) {
-        let Some((mut value, simplest)) = argument(&mut trial.calls[index], field, None) else {
-            return;
+        let (mut value, simplest) = match argument(&mut trial.calls[index], field, None) {
+            Some(found) => found,
+            None => return,
         };
         let mut step = simplest - value;
         while step != 0 {

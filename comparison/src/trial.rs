@@ -62,15 +62,19 @@ impl Trial {
 
     /// The trial as it is printed: how the gauge came about, then a line for each call, or for several in a row that are alike.
     pub fn text(&self) -> String {
-        let mut text = match &self.start {
+        let start = match &self.start {
             Start::Opened(configuration) => format!("  open    {}\n", hexadecimal(configuration)),
             Start::Saved { bytes, .. } => format!("  saved   {}\n", hexadecimal(bytes)),
         };
-        for alike in self.calls.chunk_by(|one, next| one == next) {
-            let times = if alike.len() > 1 { format!("  {} times", alike.len()) } else { String::new() };
-            text += &format!("  {}{times}\n", call_text(&alike[0]));
+        let mut lines = vec![start];
+        let mut rest = &self.calls[..];
+        while let [call, ..] = rest {
+            let alike = rest.iter().take_while(|next| *next == call).count();
+            let times = if alike > 1 { format!("  {alike} times") } else { String::new() };
+            lines.push(format!("  {}{times}\n", call_text(call)));
+            rest = &rest[alike..];
         }
-        text
+        lines.concat()
     }
 }
 

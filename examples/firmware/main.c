@@ -19,7 +19,7 @@ static uint8_t saved[GAUGE_SAVED_LENGTH];
 static void must(const char *call, uint32_t number)
 {
     if (number != GAUGE_OK) {
-        printf("%s: refused %u\n", call, (unsigned)number);
+        printf("%s: refused %u (%s)\n", call, (unsigned)number, gauge_refusal_text(number));
         exit(EXIT_FAILURE);
     }
 }
@@ -28,11 +28,6 @@ static void windows(unsigned count, int32_t current, int32_t voltage, int32_t te
 {
     for (unsigned i = 0; i < count; i++)
         must("gauge_window", gauge_window(saved, sizeof saved, current, voltage, temperature));
-}
-
-static unsigned pair(const uint8_t *low)
-{
-    return low[0] | (unsigned)low[1] << 8;
 }
 
 /* One read brings FLAGS to TTE. The host's frame has two bytes of its own before the registers, which the read keeps. */
@@ -47,16 +42,25 @@ static void show(const char *moment)
         printf("the frame's header changed\n");
         exit(EXIT_FAILURE);
     }
-    printf("%-24s %5u %5u %5u %5u %5u %5u\n", moment, pair(registers + GAUGE_REG_NAC - first),
-           pair(registers + GAUGE_REG_LMD - first), (unsigned)registers[GAUGE_REG_RSOC - first],
-           (unsigned)registers[GAUGE_REG_FLAGS - first], pair(registers + GAUGE_REG_CAC - first),
-           pair(registers + GAUGE_REG_TTE - first));
+    printf("%-24s %5u %5u %5u %5u %5u %5u\n", moment, gauge_pair(registers + GAUGE_REG_NAC - first),
+           gauge_pair(registers + GAUGE_REG_LMD - first), (unsigned)registers[GAUGE_REG_RSOC - first],
+           (unsigned)registers[GAUGE_REG_FLAGS - first], gauge_pair(registers + GAUGE_REG_CAC - first),
+           gauge_pair(registers + GAUGE_REG_TTE - first));
 }
 
-/* A command of the host: its bit to MODE, then its key to CTRL. */
+static uint8_t mode(void)
+{
+    uint8_t byte[1];
+
+    must("gauge_read", gauge_read(saved, sizeof saved, GAUGE_REG_MODE, 1, byte, sizeof byte, 0));
+    return byte[0];
+}
+
+/* A command of the host: its bit to MODE, whose bits that are no commands are kept, then its key to CTRL. */
 static uint32_t command(uint8_t bit, uint8_t key)
 {
-    uint32_t number = gauge_write(saved, sizeof saved, GAUGE_REG_MODE, bit);
+    uint8_t kept = (uint8_t)(mode() & ~GAUGE_MODE_COMMAND_BITS);
+    uint32_t number = gauge_write(saved, sizeof saved, GAUGE_REG_MODE, kept | bit);
 
     return number != GAUGE_OK ? number : gauge_write(saved, sizeof saved, GAUGE_REG_CTRL, key);
 }
@@ -70,7 +74,7 @@ static void show_refusal(const char *call, uint32_t number, const uint8_t *gauge
 
 static void show_refusals(void)
 {
-    uint8_t before[GAUGE_SAVED_LENGTH], damaged[GAUGE_SAVED_LENGTH], reply[4] = {0};
+    uint8_t before[GAUGE_SAVED_LENGTH], reply[4] = {0};
     uint32_t number;
 
     memcpy(before, saved, sizeof saved);
@@ -84,19 +88,34 @@ static void show_refusals(void)
     show_refusal("rest 0", number, saved, before);
     number = gauge_write(saved, sizeof saved, GAUGE_REG_ARTTE, 1);
     show_refusal("write to ARTTE", number, saved, before);
-    number = gauge_write(saved, sizeof saved, GAUGE_REG_CTRL, GAUGE_KEY_A9);
+    number = gauge_write(saved, sizeof saved, GAUGE_REG_CTRL, GAUGE_KEY_DONE);
     show_refusal("key without command", number, saved, before);
     number = gauge_read(saved, sizeof saved, 0x7F, 2, reply, sizeof reply, 0);
     show_refusal("read 0x7F, 2", number, saved, before);
     number = gauge_read(saved, sizeof saved, GAUGE_REG_NAC, 2, reply, sizeof reply, 3);
     show_refusal("reply 4, place 3", number, saved, before);
+}
 
-    /* A flash cell went bad: the highest byte of the charge, which then lies above the capacity. */
+/* Where form 1 keeps some of its fields. Firmware needs none of this; it is here to damage them as a bad flash cell would. */
+enum saved_place { SAVED_FORM = 0, SAVED_HELD_HIGHEST = 18, SAVED_DRAIN_LOWEST = 19, SAVED_TEMP_HIGH = 36, SAVED_FLAGS = 40 };
+
+static void show_damage(const char *field, enum saved_place place, uint8_t bits)
+{
+    uint8_t damaged[GAUGE_SAVED_LENGTH], before[GAUGE_SAVED_LENGTH];
+
     memcpy(damaged, saved, sizeof saved);
-    damaged[18] ^= 0x40;
+    damaged[place] ^= bits;
     memcpy(before, damaged, sizeof damaged);
-    number = gauge_window(damaged, sizeof damaged, -100, 3600, 1192);
-    show_refusal("damaged copy", number, damaged, before);
+    show_refusal(field, gauge_window(damaged, sizeof damaged, -100, 3600, 1192), damaged, before);
+}
+
+static void show_damages(void)
+{
+    show_damage("another form", SAVED_FORM, 0x80);
+    show_damage("charge above capacity", SAVED_HELD_HIGHEST, 0x40);
+    show_damage("drain without a run", SAVED_DRAIN_LOWEST, 0x01);
+    show_damage("temperature of no range", SAVED_TEMP_HIGH, 0x80);
+    show_damage("flag that is none", SAVED_FLAGS, 0x08);
 }
 
 static void power_cut(void)
@@ -145,8 +164,9 @@ int main(void)
     show("a day off");
 
     /* The charger reports that the cell is full; NAC is set to LMD and a run begins. */
-    must("DONE", command(GAUGE_MODE_DONE, GAUGE_KEY_A9));
+    must("DONE", command(GAUGE_MODE_DONE, GAUGE_KEY_DONE));
     show("DONE by the host");
+    printf("%-24s 0x%02X\n", "MODE after DONE", (unsigned)mode());
 
     /* A run from full to the first end-of-discharge voltage teaches the capacity, and CI is cleared. */
     windows(80, -8000, 3500, 1192);
@@ -159,6 +179,7 @@ int main(void)
     windows(30, 5000, 3900, 1208);
     show("cradle again");
     show_refusals();
+    show_damages();
     power_cut();
     windows(1, -3000, 3700, 1200);
     show("on the way again");

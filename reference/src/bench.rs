@@ -33,12 +33,11 @@ fn lines(input: &[u8]) -> impl Iterator<Item = &[u8]> {
 
 /// What one line after the first prints.
 fn answer(saved: &mut [u8], line: &[u8]) -> String {
-    let Some([current, voltage, temperature]) = numbers::three(line) else {
-        return String::from("unread");
-    };
-    match calls::window(saved, current, voltage, temperature) {
-        0 => standing(saved),
-        refused => format!("refused {refused}"),
+    let number = numbers::three(line).map(|[current, voltage, temperature]| calls::window(saved, current, voltage, temperature));
+    match number {
+        None => String::from("unread"),
+        Some(0) => standing(saved),
+        Some(refused) => format!("refused {refused}"),
     }
 }
 

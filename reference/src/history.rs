@@ -2,10 +2,12 @@
 //!
 //! It is fed the opened configuration and the calls' arguments and takes nothing from the gauge. It shares with the gauge only the
 //! rules that are about numbers alone: leak, full test, what a run teaches, which command a key picks, which refusal arguments give.
+//! A list that begins with a loaded gauge has no opening in it; its history begins at that gauge.
 
 use crate::command::{self, Command};
 use crate::configuration::Configuration;
 use crate::fixing::{FixingPoint, FixingPoints};
+use crate::gauge::Gauge;
 use crate::leak::{self, GRAINS_PER_COUNT, GRAINS_PER_UNIT, GREATEST_DRAIN};
 use crate::learning;
 use crate::refusal;
@@ -50,6 +52,21 @@ impl History {
             run: None,
             mode: configuration.opened_mode(),
             ar: 0,
+        }
+    }
+
+    /// The start at a gauge that was loaded from saved bytes, which paper 01 does not have: what the calls before it left is taken from
+    /// that gauge, and nothing after. At an opened gauge it is `opened`, which takes nothing from the gauge.
+    pub fn begun(gauge: &Gauge) -> History {
+        History {
+            configuration: gauge.configuration,
+            p: gauge.h,
+            q: 0,
+            k: 0,
+            l: gauge.lmd,
+            run: gauge.vdq().then_some(gauge.dcr),
+            mode: gauge.mode,
+            ar: gauge.ar,
         }
     }
 

@@ -4,9 +4,10 @@
 //! in the file that carries its name, and its comment names the place of the paper it follows.
 //!
 //! - `calls` has the five calls on the 41 saved bytes; all else of the gauge is below it.
-//! - `history` works out demand 3 from the configuration and the calls' arguments and never looks at a gauge.
+//! - `history` works out demand 3 from the configuration and the calls' arguments and never looks at a gauge, except at a loaded one
+//!   to begin with.
 //! - `bench` is the bench program as a function from input bytes to output bytes.
-//! - `trace` runs a gauge and its history side by side and gives a row for each call.
+//! - `trace` runs a gauge and its history side by side and gives the fixing points of each call.
 
 pub mod bench;
 pub mod calls;

@@ -1,22 +1,11 @@
-//! A gauge and its history side by side, for tools that print or plot a list of calls.
+//! A gauge and its history side by side, for tests and tools that run a list of calls.
 
 use crate::calls;
-use crate::compensation;
 use crate::configuration::Configuration;
-use crate::fixing::{FixingPoint, FixingPoints};
+use crate::fixing::FixingPoints;
 use crate::gauge::Gauge;
 use crate::history::{Call, History};
 use crate::saved;
-
-/// How the gauge stands after a call, and the fixing points that the history finds in the call.
-#[derive(Clone, Copy, Debug, PartialEq, Eq)]
-pub struct Row {
-    pub nac: i32,
-    pub lmd: i32,
-    pub rsoc: i32,
-    pub flags: u8,
-    pub fixing_points: FixingPoints,
-}
 
 /// The saved bytes of a gauge with the history of the calls made on it.
 #[derive(Clone, Copy, Debug)]
@@ -26,19 +15,27 @@ pub struct Trace {
 }
 
 impl Trace {
-    /// Opens a gauge, or the number 1 or 2. The row has the opening as its fixing point.
-    pub fn open(configuration: &[u8]) -> Result<(Trace, Row), u32> {
+    /// Opens a gauge, or the number 1 or 2. The opening is its first fixing point.
+    pub fn open(configuration: &[u8]) -> Result<Trace, u32> {
         let configuration = Configuration::new(configuration)?;
-        let mut saved = [0; saved::LENGTH];
-        saved::store(&Gauge::opened(configuration), &mut saved);
-        let history = History::opened(configuration);
-        let trace = Trace { saved, history };
-        let row = trace.row(FixingPoints::of(FixingPoint::Opening))?;
-        Ok((trace, row))
+        Ok(Trace::new(&Gauge::opened(configuration), History::opened(configuration)))
     }
 
-    /// Makes a call on the gauge and the history. A refusal is its number and changes neither. A read shows nothing but the row.
-    pub fn call(&mut self, call: &Call) -> Result<Row, u32> {
+    /// Takes saved bytes, or the number 14. The history begins there.
+    pub fn load(saved: &[u8]) -> Result<Trace, u32> {
+        let gauge = saved::load(saved)?;
+        Ok(Trace::new(&gauge, History::begun(&gauge)))
+    }
+
+    fn new(gauge: &Gauge, history: History) -> Trace {
+        let mut saved = [0; saved::LENGTH];
+        saved::store(gauge, &mut saved);
+        Trace { saved, history }
+    }
+
+    /// Makes a call on the gauge and the history: the fixing points that the history finds in it. A refusal is its number and changes
+    /// neither. A read moves nothing; what it shows is read from the saved bytes.
+    pub fn call(&mut self, call: &Call) -> Result<FixingPoints, u32> {
         let answer = match *call {
             Call::Window { current, voltage, temperature } => calls::window(&mut self.saved, current, voltage, temperature),
             Call::Rest { windows, temperature } => calls::rest(&mut self.saved, windows, temperature),
@@ -48,19 +45,18 @@ impl Trace {
         if answer != 0 {
             return Err(answer);
         }
-        let points = self.history.call(call)?;
-        self.row(points)
+        self.history.call(call)
     }
 
-    pub fn window(&mut self, current: i32, voltage: i32, temperature: i32) -> Result<Row, u32> {
+    pub fn window(&mut self, current: i32, voltage: i32, temperature: i32) -> Result<FixingPoints, u32> {
         self.call(&Call::Window { current, voltage, temperature })
     }
 
-    pub fn rest(&mut self, windows: u32, temperature: i32) -> Result<Row, u32> {
+    pub fn rest(&mut self, windows: u32, temperature: i32) -> Result<FixingPoints, u32> {
         self.call(&Call::Rest { windows, temperature })
     }
 
-    pub fn write(&mut self, address: u32, value: u8) -> Result<Row, u32> {
+    pub fn write(&mut self, address: u32, value: u8) -> Result<FixingPoints, u32> {
         self.call(&Call::Write { address, value })
     }
 
@@ -71,10 +67,5 @@ impl Trace {
 
     pub fn history(&self) -> &History {
         &self.history
-    }
-
-    fn row(&self, fixing_points: FixingPoints) -> Result<Row, u32> {
-        let gauge = saved::load(&self.saved)?;
-        Ok(Row { nac: gauge.nac(), lmd: gauge.lmd, rsoc: compensation::rsoc(&gauge) as i32, flags: gauge.flags, fixing_points })
     }
 }

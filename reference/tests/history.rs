@@ -3,8 +3,8 @@
 mod common;
 use common::*;
 use reference::fixing::FixingPoint::{self, *};
-use reference::history::Call;
-use reference::trace::{Row, Trace};
+use reference::history::{Call, History};
+use reference::trace::Trace;
 use reference::{bench::BENCH_PACK, saved};
 
 /// A trace that asserts after every call what demand 3 says of the gauge and the history.
@@ -12,9 +12,7 @@ struct Held(Trace);
 
 impl Held {
     fn open(configuration: &[u8]) -> Held {
-        let (trace, row) = Trace::open(configuration).unwrap();
-        assert_eq!(row.fixing_points.iter().collect::<Vec<_>>(), [Opening]);
-        Held(trace)
+        Held(Trace::open(configuration).unwrap())
     }
 
     fn agree(&self) {
@@ -26,15 +24,15 @@ impl Held {
     }
 
     fn window(&mut self, current: i32, voltage: i32, temperature: i32) -> Vec<FixingPoint> {
-        let row: Row = self.0.window(current, voltage, temperature).unwrap();
+        let points = self.0.window(current, voltage, temperature).unwrap();
         self.agree();
-        row.fixing_points.iter().collect()
+        points.iter().collect()
     }
 
     fn write(&mut self, address: u32, value: u8) -> Vec<FixingPoint> {
-        let row = self.0.write(address, value).unwrap();
+        let points = self.0.write(address, value).unwrap();
         self.agree();
-        row.fixing_points.iter().collect()
+        points.iter().collect()
     }
 
     fn command(&mut self, ar: u16, mode: u8, key: u8) -> Vec<FixingPoint> {
@@ -122,4 +120,26 @@ fn rests_leak_window_by_window() {
     held.agree();
     assert!(held.0.history().h() < 1024 * G - 16_875 * 1000 * 128);
     assert_eq!(held.0.history().h() + held.0.history().r(), 1024 * G);
+}
+
+#[test]
+fn a_history_begins_at_a_loaded_gauge() {
+    let opened = Held::open(&BENCH_PACK);
+    assert_eq!(History::begun(&gauge(opened.0.saved())), *opened.0.history());
+
+    let mut held = Held::open(&BENCH_PACK);
+    held.window(20, 4150, 1192);
+    held.window(-3000, 3600, 1192);
+    held.write(0x02, 9);
+    let mut loaded = Held(Trace::load(held.0.saved()).unwrap());
+    let begun = *loaded.0.history();
+    assert_eq!((begun.p, begun.q, begun.k), (held.0.history().h(), 0, 0));
+    assert_eq!((begun.l, begun.run, begun.ar), (1024, held.0.history().run, 9));
+
+    // The run that was under way goes on and teaches the same capacity.
+    for both in [&mut held, &mut loaded] {
+        assert_eq!(both.window(-21, 3000, 1192), [QualifiedRun]);
+    }
+    assert_eq!(held.0.saved(), loaded.0.saved());
+    assert_eq!(Trace::load(&[0; 41]).err(), Some(14));
 }

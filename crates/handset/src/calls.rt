@@ -1,6 +1,6 @@
-// The calls from C. Each loads the saved bytes, makes the proved call and saves; 14 is tested first, success is 0, and a refusal
-// changes no byte of any buffer. Bytes in the form hold a gauge value, and the proved call answers 14 where it is rejected, so
-// acceptance is tested once.
+// The calls from C, whose prototypes are in include/gauge.h: a slice is a pointer and a length there. Each loads the saved bytes, makes
+// the proved call and saves; 14 is tested first, success is 0, and a refusal changes no byte of any buffer. Bytes in the form hold a gauge
+// value, and the proved call answers 14 where it is rejected, so acceptance is tested once.
 ghost use mathlib.Core.Path.{_≡_};
 ghost use lib.ListN.{length};
 ghost use Rattle.handset.specs.Calls as Spec;
@@ -13,7 +13,7 @@ use registers::reading::read;
 use saved::load::decoded;
 use saved::load::form_fits;
 
-// uint32_t gauge_open(const uint8_t *configuration, size_t length, uint8_t *saved, size_t saved_length): 1, 2, 13.
+// Refuses 1, 2, 13.
 #[no_mangle]
 pub extern "C" fn gauge_open(configuration: &[u8], saved: &mut [u8]) -> u32
     ensures number { λ r. ⌜ r ≡ Spec.openNumber (now (configuration .entry)) (length (now (saved .entry))) ⌝ }
@@ -23,7 +23,7 @@ pub extern "C" fn gauge_open(configuration: &[u8], saved: &mut [u8]) -> u32
     keep(answer, saved)
 }
 
-// uint32_t gauge_window(uint8_t *saved, size_t saved_length, int32_t current, int32_t voltage, int32_t temperature): 14, 3, 4, 5.
+// Refuses 14, 3, 4, 5.
 #[no_mangle]
 pub extern "C" fn gauge_window(
     saved: &mut [u8],
@@ -42,7 +42,7 @@ pub extern "C" fn gauge_window(
     keep(answer, saved)
 }
 
-// uint32_t gauge_rest(uint8_t *saved, size_t saved_length, uint32_t windows, int32_t temperature): 14, 6, 5.
+// Refuses 14, 6, 5.
 #[no_mangle]
 pub extern "C" fn gauge_rest(saved: &mut [u8], windows: u32, temperature: i32) -> u32
     ensures number { λ r. ⌜ r ≡ Spec.callNumber (now (saved .entry)) (Spec.restCall windows temperature) ⌝ }
@@ -56,8 +56,7 @@ pub extern "C" fn gauge_rest(saved: &mut [u8], windows: u32, temperature: i32) -
     keep(answer, saved)
 }
 
-// uint32_t gauge_write(uint8_t *saved, size_t saved_length, uint32_t address, uint8_t value): 14, 7 to 11. A byte that is stored as
-// given is put where the saved bytes hold it; only a command saves the whole gauge.
+// Refuses 14, 7 to 11. A byte that is stored as given is put where the saved bytes hold it; only a command saves the whole gauge.
 #[no_mangle]
 pub extern "C" fn gauge_write(saved: &mut [u8], address: u32, value: u8) -> u32
     ensures number { λ r. ⌜ r ≡ Spec.callNumber (now (saved .entry)) (Spec.writeCall address value) ⌝ }
@@ -79,8 +78,7 @@ pub extern "C" fn gauge_write(saved: &mut [u8], address: u32, value: u8) -> u32
     NONE
 }
 
-// uint32_t gauge_read(const uint8_t *saved, size_t saved_length, uint32_t address, uint32_t count, uint8_t *reply, size_t reply_length,
-// uint32_t place): 14, 12, 13.
+// Refuses 14, 12, 13.
 #[no_mangle]
 pub extern "C" fn gauge_read(
     saved: &[u8],

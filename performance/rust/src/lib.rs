@@ -2,11 +2,19 @@
 
 use std::slice::{from_raw_parts, from_raw_parts_mut};
 
+// For each prototype of the header a line that compiles only if it is defined here with the same types.
+include!(concat!(env!("OUT_DIR"), "/prototypes.rs"));
+
 /// # Safety
 /// Both pointers are valid for their lengths, and the buffers do not overlap.
 #[no_mangle]
-pub unsafe extern "C" fn gauge_open(configuration: *const u8, length: usize, saved: *mut u8, saved_length: usize) -> u32 {
-    reference::calls::open(from_raw_parts(configuration, length), from_raw_parts_mut(saved, saved_length))
+pub unsafe extern "C" fn gauge_open(
+    configuration: *const u8,
+    configuration_length: usize,
+    saved: *mut u8,
+    saved_length: usize,
+) -> u32 {
+    reference::calls::open(from_raw_parts(configuration, configuration_length), from_raw_parts_mut(saved, saved_length))
 }
 
 /// # Safety

@@ -1,0 +1,83 @@
+//! The build script's reader of the header.
+
+#[path = "../prototypes.rs"]
+mod prototypes;
+
+/// The prototypes as Rust would declare them, or what is not understood.
+fn read(header: &str) -> Result<Vec<String>, String> {
+    let prototypes = prototypes::read(header)?;
+    Ok(prototypes.iter().map(|call| format!("{}({})", call.name, call.parameters)).collect())
+}
+
+#[test]
+fn every_type_on_one_line_or_several() {
+    let header = "uint32_t gauge_open(const uint8_t *configuration, size_t configuration_length);
+uint32_t gauge_estimate(uint8_t *saved, uint8_t a, uint16_t b, uint32_t c,
+                        int32_t d, uint16_t *estimate,
+                        int32_t *distance);";
+    let open = "gauge_open(configuration: *const u8, configuration_length: usize)";
+    let estimate = "gauge_estimate(saved: *mut u8, a: u8, b: u16, c: u32, d: i32, estimate: *mut u16, distance: *mut i32)";
+    assert_eq!(read(header), Ok(vec![open.to_string(), estimate.to_string()]));
+}
+
+#[test]
+fn what_is_no_prototype_is_left_out() {
+    let header = "/* uint32_t gauge_comment(size_t a); */
+#define GAUGE_FORM 1 /* over
+two lines */
+#ifdef __cplusplus
+extern \"C\" {
+#endif
+enum gauge_flag { GAUGE_FLAG_CHGS = 0x80 };
+uint32_t gauge_rest(uint8_t *saved, size_t saved_length);
+static inline unsigned gauge_pair(const uint8_t *low)
+{
+    if (low == 0) { return 0; }
+    return low[0];
+}
+uint32_t gauge_last(size_t a);
+#ifdef __cplusplus
+}
+#endif
+";
+    let expected = ["gauge_rest(saved: *mut u8, saved_length: usize)", "gauge_last(a: usize)"];
+    assert_eq!(read(header), Ok(expected.map(String::from).to_vec()));
+}
+
+#[test]
+fn a_wrong_header_is_refused() {
+    let rows = [
+        ("", "no prototype"),
+        ("#define GAUGE_FORM 1\n", "no prototype"),
+        ("uint32_t gauge_a(float x);", "parameter `float x` of gauge_a is not understood"),
+        ("uint32_t gauge_a(size_t n, uint8_t **x);", "parameter `uint8_t **x` of gauge_a is not understood"),
+        ("uint32_t gauge_a(const uint16_t *x);", "parameter `const uint16_t *x` of gauge_a is not understood"),
+        ("uint32_t gauge_a(uint8_t x[41]);", "parameter `uint8_t x[41]` of gauge_a is not understood"),
+        ("uint32_t gauge_a(uint8_t *);", "parameter `uint8_t *` of gauge_a is not understood"),
+        ("uint32_t gauge_a(size_t);", "parameter `size_t` of gauge_a is not understood"),
+        ("uint32_t gauge_a(void);", "parameter `void` of gauge_a is not understood"),
+        ("uint32_t gauge_a();", "parameter `` of gauge_a is not understood"),
+        ("int32_t gauge_a(size_t n);", "`int32_t gauge_a(size_t n)` is not understood"),
+        ("uint32_t other(size_t n);", "`uint32_t other(size_t n)` is not understood"),
+        ("extern uint32_t gauge_a;", "`extern uint32_t gauge_a` is not understood"),
+        (
+            "uint32_t gauge_a(size_t n)\nstatic inline int f(void) { }",
+            "`uint32_t gauge_a(size_t n) static inline int f(void)` is not understood",
+        ),
+        ("uint32_t gauge_a(size_t n)", "the last declaration does not end"),
+        ("uint32_t gauge_a(size_t n); enum b {", "the last declaration does not end"),
+        ("uint32_t gauge_a(size_t n); }", "a brace is closed that was not opened"),
+        ("uint32_t gauge_a(size_t n); /* b", "a comment does not end"),
+    ];
+    for (header, wrong) in rows {
+        assert_eq!(read(header), Err(wrong.to_string()), "{header}");
+    }
+}
+
+#[test]
+fn the_header_is_read() {
+    let calls = read(include_str!("../../include/gauge.h")).unwrap();
+    assert_eq!(calls[0], "gauge_open(configuration: *const u8, configuration_length: usize, saved: *mut u8, saved_length: usize)");
+    assert!(calls.iter().any(|call| call.starts_with("gauge_read(")));
+    assert!(!calls.iter().any(|call| call.starts_with("gauge_pair(")));
+}
