@@ -1,0 +1,173 @@
+#include "table.h"
+
+#include "words.h"
+
+#include <assert.h>
+#include <inttypes.h>
+#include <stdio.h>
+#include <string.h>
+
+enum { WINDOW_HUNDREDTHS = 512, TIME_ROOM = 32, NUMBER_WIDTH = 6, BYTES_A_LINE = 16 };
+
+/* Of a gauge that comes from an opening. A gauge made up by hand and loaded may have more flags, and its row is then longer. */
+enum { FLAGS_WIDTH = sizeof "CI+EDV1+EDVF" - 1, FLAGS_ROOM = sizeof "CHGS+CI+VDQ+EDV1+EDVF" };
+
+enum shown_as { DECIMAL, HEXADECIMAL, FLAG_NAMES };
+
+struct column {
+    const char *name;
+    enum gauge_register address;
+    int bytes;
+    enum shown_as shown_as;
+};
+
+/* Without --all the first ones. */
+enum { USUAL_COLUMNS = 6 };
+
+static const struct column columns[] = {
+    {"NAC", GAUGE_REG_NAC, 2, DECIMAL},
+    {"LMD", GAUGE_REG_LMD, 2, DECIMAL},
+    {"RSOC", GAUGE_REG_RSOC, 1, DECIMAL},
+    {"FLAGS", GAUGE_REG_FLAGS, 1, FLAG_NAMES},
+    {"CAC", GAUGE_REG_CAC, 2, DECIMAL},
+    {"TTE", GAUGE_REG_TTE, 2, DECIMAL},
+    {"MODE", GAUGE_REG_MODE, 1, HEXADECIMAL},
+    {"AR", GAUGE_REG_AR, 2, DECIMAL},
+    {"ARTTE", GAUGE_REG_ARTTE, 2, DECIMAL},
+    {"TEMP", GAUGE_REG_TEMP, 2, DECIMAL},
+    {"VOLT", GAUGE_REG_VOLT, 2, DECIMAL},
+    {"FCAC", GAUGE_REG_FCAC, 2, DECIMAL},
+    {"IAV", GAUGE_REG_IAV, 2, DECIMAL},
+    {"TTF", GAUGE_REG_TTF, 2, DECIMAL},
+    {"SI", GAUGE_REG_SI, 2, DECIMAL},
+    {"STTE", GAUGE_REG_STTE, 2, DECIMAL},
+    {"CEDV", GAUGE_REG_CEDV, 2, DECIMAL},
+};
+
+static const struct {
+    unsigned bit;
+    const char *name;
+} flags[] = {
+    {GAUGE_FLAG_CHGS, "CHGS"}, {GAUGE_FLAG_CI, "CI"},     {GAUGE_FLAG_VDQ, "VDQ"},
+    {GAUGE_FLAG_EDV1, "EDV1"}, {GAUGE_FLAG_EDVF, "EDVF"},
+};
+
+static int column_width(const struct column *column)
+{
+    int name = (int)strlen(column->name);
+    int value = column->bytes == 2 ? 5 : 3;
+
+    if (column->shown_as == FLAG_NAMES)
+        value = FLAGS_WIDTH;
+    return name > value ? name : value;
+}
+
+/* Answers the text's length. */
+static int time_text(uint64_t windows, char text[TIME_ROOM])
+{
+    uint64_t hundredths = windows * WINDOW_HUNDREDTHS, seconds = hundredths / 100, minutes = seconds / 60;
+
+    return snprintf(text, TIME_ROOM, "%" PRIu64 ":%02u:%02u.%02u", minutes / 60, (unsigned)(minutes % 60),
+                    (unsigned)(seconds % 60), (unsigned)(hundredths % 100));
+}
+
+static void flags_text(unsigned byte, char text[FLAGS_ROOM])
+{
+    text[0] = '\0';
+    for (size_t i = 0; i < sizeof flags / sizeof *flags; i++)
+        if ((byte & flags[i].bit) != 0) {
+            if (text[0] != '\0')
+                strcat(text, "+");
+            strcat(text, flags[i].name);
+        }
+    if (text[0] == '\0')
+        strcpy(text, "-");
+}
+
+static void print_register(const struct column *column, const uint8_t *registers)
+{
+    const uint8_t *place = registers + column->address;
+    unsigned value = column->bytes == 2 ? gauge_pair(place) : *place;
+    char names[FLAGS_ROOM];
+
+    switch (column->shown_as) {
+    case DECIMAL:
+        printf(" %*u", column_width(column), value);
+        break;
+    case HEXADECIMAL:
+        printf(" 0x%02X", value);
+        break;
+    case FLAG_NAMES:
+        flags_text(value, names);
+        printf(" %*s", column_width(column), names);
+        break;
+    }
+}
+
+static void print_read(uint32_t address, uint32_t count, const uint8_t *reply)
+{
+    for (uint32_t from = 0; from < count; from += BYTES_A_LINE) {
+        uint32_t left = count - from;
+        printf("# 0x%02X:", (unsigned)(address + from));
+        bytes_print(stdout, reply + from, left < BYTES_A_LINE ? left : BYTES_A_LINE);
+        putchar('\n');
+    }
+}
+
+void table_begin(struct table *table, bool all, uint64_t most_windows)
+{
+    char longest[TIME_ROOM];
+
+    *table = (struct table){.columns = all ? sizeof columns / sizeof *columns : USUAL_COLUMNS};
+    table->time_width = time_text(most_windows, longest);
+    printf("%*s %*s", table->time_width, "time", NUMBER_WIDTH, "number");
+    for (size_t i = 0; i < table->columns; i++)
+        printf(" %*s", column_width(&columns[i]), columns[i].name);
+    printf(" call\n");
+}
+
+static void count_call(struct table *table, uint32_t number, struct place place)
+{
+    table->calls++;
+    if (number == GAUGE_OK)
+        return;
+    assert(number <= GAUGE_REFUSED_SAVED);
+    table->refused++;
+    if (table->refusals[number].count++ == 0)
+        table->refusals[number].first = place;
+}
+
+void table_row(struct table *table, const struct call *call, uint32_t number, const struct run *run, const uint8_t *reply)
+{
+    uint8_t registers[GAUGE_REGISTERS];
+    char time[TIME_ROOM];
+    bool gauge = gauge_read(run->saved, sizeof run->saved, 0, GAUGE_REGISTERS, registers, sizeof registers, 0) == GAUGE_OK;
+
+    time_text(run->windows, time);
+    printf("%*s %*u", table->time_width, time, NUMBER_WIDTH, (unsigned)number);
+    for (size_t i = 0; i < table->columns; i++)
+        if (gauge)
+            print_register(&columns[i], registers);
+        else
+            printf(" %*s", column_width(&columns[i]), "-");
+    putchar(' ');
+    call_print(call);
+    if (call->kind == CALL_READ && number == GAUGE_OK)
+        print_read((uint32_t)call->numbers[0], (uint32_t)call->numbers[1], reply);
+    count_call(table, number, call->place);
+}
+
+void table_end(const struct table *table)
+{
+    if (table->refused == 0) {
+        printf("# %zu calls, none refused\n", table->calls);
+        return;
+    }
+    printf("# %zu calls, %zu refused\n", table->calls, table->refused);
+    for (uint32_t number = 0; number <= GAUGE_REFUSED_SAVED; number++) {
+        const struct refusals *refusals = &table->refusals[number];
+        if (refusals->count > 0)
+            printf("# refused with %u (%s): %zu, first %s:%zu\n", (unsigned)number, gauge_refusal_text(number),
+                   refusals->count, refusals->first.name, refusals->first.line);
+    }
+}

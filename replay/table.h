@@ -1,0 +1,29 @@
+/* The table on standard output: a heading, a row for each call, a summary. */
+#ifndef REPLAY_TABLE_H
+#define REPLAY_TABLE_H
+
+#include "calls.h"
+
+struct refusals {
+    size_t count;
+    struct place first;
+};
+
+struct table {
+    size_t columns;
+    int time_width;
+    size_t calls;
+    size_t refused;
+    struct refusals refusals[GAUGE_REFUSED_SAVED + 1]; /* by number */
+};
+
+/* Prints the heading. most_windows: the run takes no more time than these; the first column is as wide as that needs. */
+void table_begin(struct table *table, bool all, uint64_t most_windows);
+
+/* Prints the row of a call that answered number and left the run as it stands, and the registers that a read brought in reply. */
+void table_row(struct table *table, const struct call *call, uint32_t number, const struct run *run, const uint8_t *reply);
+
+/* Prints the summary. */
+void table_end(const struct table *table);
+
+#endif

@@ -1,0 +1,87 @@
+# shellcheck shell=bash disable=SC2154 # what check sets
+# Right lists: the table for them.
+
+# NAC, LMD, RSOC and FLAGS are those that the request prints for these three windows, CAC 892 and TTE 17 those of its proved examples. The
+# other registers are its formulas worked out by hand: CAC is NAC - 0 without a drain; FCAC 1024 - 127 = 897; STTE 60 * 1024 / 10 = 6144
+# and floor(60 * 1019 / 10) = 6114; TTF 90 * 0 / 20 = 0; ARTTE 65535 as AR is 0; MODE 0x44 as opened, and full clears INIT.
+# NAC 1019 is the bytes FB 03.
+run "$parts/bench-pack.txt"
+expect "bench pack: status" 0 "$status"
+expect "bench pack: no messages" "" "$(cat messages)"
+expect "bench pack: table" "$(cat "$parts/bench-pack.table")" "$(cat printed)"
+run --all "$parts/bench-pack.txt"
+expect "bench pack: table with --all" "$(cat "$parts/bench-pack-all.table")" "$(cat printed)"
+run - <"$parts/bench-pack.txt"
+expect "bench pack: as -" "$(cat "$parts/bench-pack.table")" "$(cat printed)"
+run <"$parts/bench-pack.txt"
+expect "bench pack: on standard input" "$(cat "$parts/bench-pack.table")" "$(cat printed)"
+
+# FLAGS of the request's output, as the byte: 16, 148, 20.
+run "$parts/bench-pack.txt"
+expect "bench pack: FLAGS as bytes" "16 148 20" "$(windows_as_bench_prints | awk '{ printf "%s%s", (NR > 1 ? " " : ""), $4 }')"
+
+calls_of() { # TEXT: the calls of a list as the table shows them
+    list calls.txt "$1"
+    run calls.txt
+    rows | awk '{ for (i = 1; i <= 8; i++) $i = ""; print }' | sed 's/^ *//'
+}
+
+bench_open='open 04 5E 77 05 21 10 00 00 6C 15'
+expect "normal form: open" "$bench_open"$'\n'"$bench_open"$'\n'"$bench_open" \
+    "$(calls_of 'open bench\nopen 045e7705 2110 00006C15\nopen\t04 5E 77 05 21 10 00 00 6C 15\n')"
+expect "normal form: numbers" "$bench_open"$'\nwindow 0 -7 1192\nrest 16875 1180\nwrite 0x01 0x10\nread 0x0C 2\nnac 900\nlmd 900' \
+    "$(calls_of 'open bench\n-0 -007 01192\nrest 016875 1180\nwrite 1 0x10\nread 12 0x2\nnac 0900\nlmd 900\n')"
+expect "normal form: commands" "$bench_open"$'\ndone\nreset\npartial' "$(calls_of 'open bench\ndone\nreset\npartial\n')"
+expect "normal form: greatest numbers" "$bench_open
+window -2147483648 2147483647 -2147483648
+rest 4294967295 2147483647
+write 0xFFFFFFFF 0xFF
+read 0xFFFFFFFF 4294967295
+nac 65535
+lmd 65535" "$(calls_of 'open bench
+window -2147483648 2147483647 -2147483648
+rest 4294967295 2147483647
+write 4294967295 255
+read 0xffffffff 0xFFFFFFFF
+nac 65535
+lmd 65535
+')"
+expect "c v t in the second list opens nothing" "$bench_open"$'\nwindow 2 3700 1192\nwindow 3 3700 1192' \
+    "$(list second.txt 'c v t\n3 3700 1192\n'; list first.txt 'c v t\n2 3700 1192\n'; run first.txt second.txt; rows | sed 's/.*  *\(open\|window\)/\1/')"
+expect "c v t opens where the list before it has no call" "$bench_open" \
+    "$(list second.txt 'c v t\n'; list first.txt '# none\n'; run first.txt second.txt; rows | sed 's/.*open/open/')"
+expect "c v t after load opens nothing" "1 calls" \
+    "$(list first.txt 'load 01\n'; list second.txt 'c v t\n'; run first.txt second.txt; sed -n 's/^# \(1 calls\).*/\1/p' printed)"
+
+thousand="# $(printf '%0998d' 0)"
+expect "a line of 1000 bytes is right" "$bench_open" "$(calls_of "open bench\n$thousand\n")"
+expect "bytes above 127 in a comment are right" "$bench_open" "$(calls_of 'open bench # 20 \0302\0260C\n')"
+
+empty_table='      time number   NAC   LMD RSOC        FLAGS   CAC   TTE call
+# 0 calls, none refused'
+list empty.txt ''
+run empty.txt
+expect "an empty list" "$empty_table 0" "$(cat printed) $status"
+list empty.txt '\n# nothing\n\t \n#'
+run empty.txt
+expect "a list without calls" "$empty_table 0" "$(cat printed) $status"
+
+# 16875 windows of 5.12 s are a day to the hundredth. An empty gauge has no charge to leak, so its registers stay as opened.
+list days.txt 'open bench\n0 3700 1192\nrest 16876 1180\nrest 16874 1180\nrest 16875 1180\nrest 16875 1180\nrest 16875 1180\nrest 16875 1180\n'
+run days.txt
+expect "time of rests, in line" "        time number   NAC   LMD RSOC        FLAGS   CAC   TTE call
+  0:00:00.00      0     0  1024    0           CI     0 65535 $bench_open
+  0:00:05.12      0     0  1024    0           CI     0 65535 window 0 3700 1192
+  0:00:05.12      6     0  1024    0           CI     0 65535 rest 16876 1180
+ 24:00:00.00      0     0  1024    0           CI     0 65535 rest 16874 1180
+ 48:00:00.00      0     0  1024    0           CI     0 65535 rest 16875 1180
+ 72:00:00.00      0     0  1024    0           CI     0 65535 rest 16875 1180
+ 96:00:00.00      0     0  1024    0           CI     0 65535 rest 16875 1180
+120:00:00.00      0     0  1024    0           CI     0 65535 rest 16875 1180
+# 8 calls, 1 refused
+# refused with 6 (rest length out of range): 1, first days.txt:3" "$(cat printed)"
+
+awk 'BEGIN { print "c v t"; for (i = 0; i < 200000; i++) print "0 3700 1192" }' >long.txt
+run long.txt
+expect "a list of 200000 windows" "# 200001 calls, none refused 284:26:40.00" \
+    "$(tail -n 1 printed) $(rows | tail -n 1 | awk '{ print $1 }')"
