@@ -1,5 +1,5 @@
 # shellcheck shell=bash
-# For plot and compare-rounded, which read this file: from a list to the tables that gnuplot draws.
+# For the scripts of this folder, which read this file: from lists of calls to the tables that gnuplot draws, and to a picture.
 drives="$(cd "$(dirname "${BASH_SOURCE[0]}")" && pwd)"
 root="$(dirname "$drives")"
 
@@ -8,49 +8,48 @@ fail() {
     exit 1
 }
 
-need() {
-    command -v "$1" >/dev/null || fail "$1 is missing${2:+: $2}"
+usage() {
+    echo "usage: drives/$*" >&2
+    exit 2
 }
 
-# The proved bench program, proved and built if it is not there. Without its stamp rt builds it again, also if its proof is not new.
-bench() {
-    if [ ! -x "$root/target/bin/bench" ]; then
-        need rt "install the Rattle kit"
-        rm -f "$root/target/stamp/bench"
-        (cd "$root" && rt check bench >&2) || fail "rt check bench"
-    fi
-    "$root/target/bin/bench"
+# A folder for the tables of one run, which goes when the script ends.
+make_room() {
+    room=$(mktemp -d)
+    trap 'rm -rf "$room"' EXIT
 }
 
-trace() {
-    need cargo
-    CARGO_TARGET_DIR="$root/target/rust" \
-        cargo build --quiet --release --offline --manifest-path "$drives/trace/Cargo.toml"
-    "$root/target/rust/release/trace" "$@"
+# replayed FOLDER LIST ..: what replay prints for the lists, as FOLDER/table. A status of replay's other than 0 ends the script.
+replayed() {
+    mkdir -p "$1"
+    "$root/target/replay/replay" --all "${@:2}" >"$1/table" || exit
 }
 
-# tables LIST FOLDER: NAC, LMD, RSOC and FLAGS from the bench program, fixing points from the history.
+# traced FOLDER [OPTION ..]: FOLDER/table is held to the second implementation, and the tables that gnuplot draws are made of it.
+traced() {
+    "$root/target/rust/release/trace" "${@:2}" "$1/table" "$1" || exit
+}
+
+# tables FOLDER LIST ..: both.
 tables() {
-    [ -f "$1" ] || fail "no list $1; drives/make makes the lists"
-    mkdir -p "$2"
-    bench <"$1" >"$2/printed"
-    trace "$1" "$2/printed" "$2"
+    replayed "$@"
+    traced "$1"
 }
 
-# draw SCRIPT FOLDER OUT TITLE: the picture, from the tables in FOLDER.
+# draw SCRIPT FOLDER OUT TITLE: the picture, from the tables in FOLDER. OUT is put in place last, so that a failure leaves it as it was.
 draw() {
-    need gnuplot "apt-get install -y gnuplot-nox"
+    gnuplot -c "$drives/$1" "$2" "$2/picture.png" "$4" || fail "gnuplot failed"
     mkdir -p "$(dirname "$3")"
-    gnuplot -c "$drives/$1" "$2" "$3" "$4"
+    mv -fT "$2/picture.png" "$3"
+    echo "drives: $3 is drawn"
 }
 
-# A list's name: its file name without the ending.
-name_of() {
-    basename "$1" .txt
-}
-
-# A list's name as a title.
+# A list's name as a title: its file name without the ending.
 title_of() {
-    local words="${1//-/ }"
-    echo "${words^}"
+    local name
+    name=$(basename -- "$1")
+    [ "$name" != - ] || name="standard input"
+    name=${name%.txt}
+    name=${name//-/ }
+    echo "${name^}"
 }

@@ -1,16 +1,29 @@
-//! Tables for pictures of a list of windows.
+//! Tables for pictures of a list of calls.
 //!
-//!     trace LIST PRINTED FOLDER
+//!     trace [--rounded TRUE] TABLE FOLDER
 //!
-//! LIST is the bench program's input and PRINTED what the program printed for it. The tables go to FOLDER: `curves`, `bands`,
-//! `points` and `marks`. A difference between what was printed and the history of demand 3 is an error.
+//! TABLE is what `replay --all` printed for any list. The calls of its rows are made on the second implementation, and the first row where
+//! anything that is shown differs, or where the history of demand 3 does, is an error. The tables go to FOLDER: `curves`, `bands`,
+//! `points`, `dark`, `refused` and `marks`. With `--rounded` also `beside` and `beside-marks`, for `compare-rounded`; TRUE has the true
+//! charge of the cell after each window.
 
-mod join;
+mod agreement;
+mod axis;
+mod beside;
+#[cfg(test)]
+mod examples;
+mod line;
 mod marks;
 mod rounded;
+mod second;
+mod shown;
+mod step;
+mod table;
 mod tables;
 
+use marks::Marks;
 use std::{env, fs, path::Path, process::ExitCode};
+use step::Step;
 
 fn main() -> ExitCode {
     match run(&env::args().skip(1).collect::<Vec<_>>()) {
@@ -23,18 +36,45 @@ fn main() -> ExitCode {
 }
 
 fn run(arguments: &[String]) -> Result<(), String> {
-    let [list, printed, folder] = arguments else {
-        return Err(String::from("usage: trace LIST PRINTED FOLDER"));
+    let (truth, table, folder) = match arguments {
+        [table, folder] => (None, table, folder),
+        [option, truth, table, folder] if option == "--rounded" => (Some(truth), table, folder),
+        _ => return Err(String::from("usage: trace [--rounded TRUE] TABLE FOLDER")),
     };
-    let rows = join::rows(&read(list)?, &read(printed)?)?;
-    if rows.is_empty() {
-        return Err(format!("{list} has no window that is not refused"));
+    let steps = agreement::steps(&read(table)?)?;
+    if steps.iter().all(|step| step.gauge.is_none()) {
+        return Err(String::from("nothing to draw: no gauge was opened or loaded"));
     }
-    let put = |name: &str, text: String| fs::write(Path::new(folder).join(name), text).map_err(|e| format!("{folder}/{name}: {e}"));
-    put("curves", tables::curves(&rows))?;
-    put("bands", tables::bands(&rows))?;
-    put("points", tables::fixing_points(&rows))?;
-    put("marks", marks::marks(&rows))
+    let folder = Path::new(folder);
+    if let Some(truth) = truth {
+        let rows = beside::rows(&steps, &read(truth)?)?;
+        put(folder, "beside", &beside::table(&rows))?;
+        put(folder, "beside-marks", &beside::marks(&rows))?;
+    }
+    write(&steps, folder)
+}
+
+fn write(steps: &[Step], folder: &Path) -> Result<(), String> {
+    let moves: Vec<&Step> = steps.iter().filter(|step| step.moves()).collect();
+    let (bands, points) = (tables::bands(&moves), tables::points(&moves));
+    let (dark, refused) = (tables::dark(&moves), tables::refused(steps));
+    put(folder, "curves", &tables::curves(&moves))?;
+    put(folder, "bands", &lines(&bands, |(band, from, to)| format!("{band} {from:.6} {to:.6}")))?;
+    put(folder, "points", &lines(&points, |(kind, hour, nac)| format!("{kind} {hour:.6} {nac}")))?;
+    put(folder, "dark", &lines(&dark, |(hour, labelled)| format!("{hour:.6} {labelled}")))?;
+    put(folder, "refused", &lines(&refused, |hour| format!("{hour:.6}")))?;
+    let made = points.iter().map(|point| point.0).collect();
+    let bands = bands.iter().map(|band| band.0).collect();
+    put(folder, "marks", &Marks { steps, refused: refused.len(), dark: dark.len(), made, bands }.text())
+}
+
+fn lines<T>(rows: &[T], line: impl Fn(&T) -> String) -> String {
+    rows.iter().map(|row| line(row) + "\n").collect()
+}
+
+fn put(folder: &Path, name: &str, text: &str) -> Result<(), String> {
+    let path = folder.join(name);
+    fs::write(&path, text).map_err(|e| format!("{}: {e}", path.display()))
 }
 
 fn read(path: &str) -> Result<String, String> {

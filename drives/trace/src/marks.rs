@@ -1,35 +1,65 @@
-//! The moments and numbers that the comparison names, as gnuplot's variables.
+//! What gnuplot needs beside the tables, as its variables.
 
-use crate::join::Row;
-use crate::tables::hours;
-use reference::gauge::EDVF;
+use crate::axis;
+use crate::step::{hours, Step};
+use crate::tables::kinds;
 
-/// Windows of the hour before.
-const HOUR: usize = 703;
-
-/// `end`: the list's last hour. `dark`: the first EDVF window, or -1. If there is one: `dark_nac` and `dark_rounded` are shown in the
-/// window before it; from `empty` on NAC is 0, and `empty_rounded` is shown there; `load` is the mean discharge of the hour before.
-pub fn marks(rows: &[Row]) -> String {
-    let dark = rows.iter().position(|row| row.flags & EDVF != 0);
-    let end = format!("end = {:.5}\n", hours(rows[rows.len() - 1].window));
-    end + &dark.filter(|&at| at > 0).map_or(String::from("dark = -1\n"), |at| at_dark(rows, at))
+/// - `end`: the last hour, at least one window; `unit`, `per_hour` and `time_tic` of the axis of time;
+/// - `greatest`: the greatest LMD; `count_tic` of the axis of counts;
+/// - `calls`, `refused`, `dark`: how many there are;
+/// - `kind`: the names of the kinds of points; `made`: the numbers of those that there are; `bands`: the same of bands.
+pub struct Marks<'a> {
+    pub steps: &'a [Step],
+    pub refused: usize,
+    pub dark: usize,
+    pub made: Vec<usize>,
+    pub bands: Vec<usize>,
 }
 
-fn at_dark(rows: &[Row], at: usize) -> String {
-    let empty = rows[..at].iter().rposition(|row| row.nac > 0).map_or(0, |last| last + 1);
-    let before = &rows[at - 1];
-    format!(
-        "dark = {:.5}\ndark_nac = {}\ndark_rounded = {}\nempty = {:.5}\nempty_rounded = {}\nload = {:.1}\n",
-        hours(rows[at].window),
-        before.nac,
-        before.rounded,
-        hours(rows[empty].window),
-        rows[empty.min(at - 1)].rounded,
-        load(&rows[at.saturating_sub(HOUR)..at]),
-    )
+impl Marks<'_> {
+    pub fn text(&self) -> String {
+        let end = hours(self.steps.last().map_or(0, |step| step.to).max(1));
+        let axis::Time { unit, per_hour, tic } = axis::time(end);
+        let greatest = self.steps.iter().filter_map(|step| step.gauge).map(|gauge| gauge.lmd).max().unwrap_or(0);
+        let names = kinds();
+        [
+            format!("end = {end:.6}\nunit = '{unit}'\nper_hour = {per_hour:?}\ntime_tic = {tic:?}"),
+            format!("greatest = {greatest}\ncount_tic = {}", axis::counts(i64::from(greatest))),
+            format!("calls = {}\nrefused = {}\ndark = {}", self.steps.len(), self.refused, self.dark),
+            format!("array kind[{}] = ['{}']", names.len(), names.join("', '")),
+            format!("made = '{}'\nbands = '{}'\n", words(&self.made), words(&self.bands)),
+        ]
+        .join("\n")
+    }
 }
 
-fn load(rows: &[Row]) -> f64 {
-    let drains: Vec<f64> = rows.iter().filter(|row| row.current < 0).map(|row| -f64::from(row.current)).collect();
-    drains.iter().sum::<f64>() / drains.len().max(1) as f64
+/// Numbers in ascending order, each once.
+fn words(numbers: &[usize]) -> String {
+    let mut numbers = numbers.to_vec();
+    numbers.sort_unstable();
+    numbers.dedup();
+    numbers.iter().map(usize::to_string).collect::<Vec<_>>().join(" ")
+}
+
+#[cfg(test)]
+mod tests {
+    use super::*;
+    use crate::examples;
+
+    #[test]
+    fn a_list_of_commands_is_one_window_wide() {
+        let steps = examples::steps(&["open 08 5E 77 05 21 10 00 00 6C 15", "nac 9"]);
+        let text = Marks { steps: &steps, refused: 0, dark: 0, made: vec![3, 1, 3], bands: vec![5] }.text();
+        assert!(text.starts_with(
+            "end = 0.001422\nunit = 'seconds'\nper_hour = 3600.0\ntime_tic = 0.5\ngreatest = 2048\ncount_tic = 256\n"
+        ));
+        assert!(text.ends_with("\nmade = '1 3'\nbands = '5'\n"));
+    }
+
+    #[test]
+    fn the_greatest_capacity_may_be_one_that_is_gone() {
+        let steps = examples::steps(&["open 01 5E 77 05 21 10 00 00 6C 15", "lmd 1825", "lmd 200"]);
+        let text = Marks { steps: &steps, refused: 0, dark: 0, made: Vec::new(), bands: Vec::new() }.text();
+        assert!(text.contains("greatest = 1825\n"));
+    }
 }

@@ -1,0 +1,111 @@
+//! Holds every row of the table to the second implementation and to its history.
+
+use crate::line;
+use crate::second::Second;
+use crate::shown::{shown, time, REGISTERS};
+use crate::step::Step;
+use crate::table::{self, Row};
+use reference::gauge::Gauge;
+use reference::history::History;
+use reference::leak;
+
+/// The steps of a table, or the first row where something differs.
+pub fn steps(table: &str) -> Result<Vec<Step>, String> {
+    let mut second = Second::default();
+    let rows = table::rows(table)?;
+    rows.iter().map(|row| step(&mut second, row).map_err(|what| format!("row {} ({}): {what}", row.line, row.call))).collect()
+}
+
+fn step(second: &mut Second, row: &Row) -> Result<Step, String> {
+    let step = second.step(row.line, line::parse(row.call)?);
+    same("number", row.number, &step.number.to_string())?;
+    same("time", row.time, &time(step.to))?;
+    for ((register, &printed), own) in REGISTERS.iter().zip(&row.registers).zip(&shown(second.saved())) {
+        same(register.name, printed, own)?;
+    }
+    let read: Vec<String> = second.read(&step.line).iter().map(|byte| format!("{byte:02X}")).collect();
+    same("read", &row.bytes.join(" "), &read.join(" "))?;
+    if let (Some(gauge), Some(history)) = (&step.gauge, second.history()) {
+        demand_3(gauge, history)?;
+    }
+    Ok(step)
+}
+
+fn same(what: &str, printed: &str, own: &str) -> Result<(), String> {
+    if printed == own {
+        Ok(())
+    } else {
+        Err(format!("{what} is `{printed}`, the second implementation has `{own}`"))
+    }
+}
+
+/// NAC, LMD and VDQ are those of the history. The table shows what the gauge has: the registers were compared before.
+fn demand_3(gauge: &Gauge, history: &History) -> Result<(), String> {
+    let of_gauge = (i64::from(gauge.nac()), gauge.lmd, gauge.vdq());
+    let of_history = (leak::nac(history.h()), history.l, history.run.is_some());
+    if of_gauge == of_history {
+        Ok(())
+    } else {
+        Err(format!("NAC, LMD and VDQ are {of_gauge:?}, the history has {of_history:?}"))
+    }
+}
+
+#[cfg(test)]
+mod tests {
+    use super::*;
+    use crate::examples::TABLE;
+
+    fn refused(from: &str, to: &str) -> String {
+        assert!(TABLE.contains(from));
+        steps(&TABLE.replacen(from, to, 1)).err().unwrap()
+    }
+
+    #[test]
+    fn the_example_agrees() {
+        let steps = steps(TABLE).unwrap();
+        assert_eq!(
+            steps.iter().map(|step| (step.to, step.number, step.nac())).collect::<Vec<_>>()[3..],
+            [(3, 0, 1019), (3, 5, 1019), (3, 0, 1019)]
+        );
+    }
+
+    #[test]
+    fn a_wrong_register() {
+        let what = "row 5 (window -3000 3600 1192): CAC is `893`, the second implementation has `892`";
+        assert_eq!(refused("892", "893"), what);
+        let what = "row 4 (window 20 4150 1192): FLAGS is `CI+VDQ`, the second implementation has `CHGS+CI+VDQ`";
+        assert_eq!(refused("CHGS+CI+VDQ", "CI+VDQ"), what);
+    }
+
+    #[test]
+    fn a_wrong_number() {
+        let what = "row 6 (window 0 3600 1373): number is `4`, the second implementation has `5`";
+        assert_eq!(refused("0:00:15.36      5", "0:00:15.36      4"), what);
+    }
+
+    #[test]
+    fn a_wrong_time() {
+        let what = "row 3 (window 2 3700 1192): time is `0:00:05.13`, the second implementation has `0:00:05.12`";
+        assert_eq!(refused("0:00:05.12", "0:00:05.13"), what);
+    }
+
+    #[test]
+    fn a_wrong_call_or_read() {
+        assert_eq!(refused("window 2 3700 1192", "sleep"), "row 3 (sleep): `sleep` is no call that replay prints");
+        assert_eq!(refused("FB 03", "FB 04"), "row 7 (read 0x0C 2): read is `FB 04`, the second implementation has `FB 03`");
+    }
+
+    #[test]
+    fn a_history_that_differs() {
+        let mut second = Second::default();
+        let open = line::parse("open 04 5E 77 05 21 10 00 00 6C 15").unwrap();
+        let gauge = second.step(2, open).gauge.unwrap();
+        let history = *second.history().unwrap();
+        assert_eq!(demand_3(&gauge, &history), Ok(()));
+        let other = History { l: 1025, ..history };
+        assert_eq!(
+            demand_3(&gauge, &other).unwrap_err(),
+            "NAC, LMD and VDQ are (0, 1024, false), the history has (0, 1025, false)"
+        );
+    }
+}

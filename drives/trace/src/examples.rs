@@ -1,0 +1,22 @@
+//! A table for the tests: the bench pack's example of paper 01, then a refused window and a read.
+
+pub const HEADING: &str = "time number NAC LMD RSOC FLAGS CAC TTE MODE AR ARTTE TEMP VOLT FCAC IAV TTF SI STTE CEDV call\n";
+
+pub const TABLE: &str = "\
+      time number   NAC   LMD RSOC        FLAGS   CAC   TTE MODE    AR ARTTE  TEMP  VOLT  FCAC   IAV   TTF    SI  STTE  CEDV call
+0:00:00.00      0     0  1024    0           CI     0 65535 0x44     0 65535     0     0  1024     0 65535    10     0  3000 open 04 5E 77 05 21 10 00 00 6C 15
+0:00:05.12      0     0  1024    0           CI     0 65535 0x44     0 65535  1192  3700  1024     0 65535    10     0  3000 window 2 3700 1192
+0:00:10.24      0  1024  1024  100  CHGS+CI+VDQ  1024 65535 0x40     0 65535  1192  4150  1024    20     0    10  6144  3000 window 20 4150 1192
+0:00:15.36      0  1019  1024   99       CI+VDQ   892    17 0x40     0 65535  1192  3600   897  3000 65535    10  6114  3000 window -3000 3600 1192
+0:00:15.36      5  1019  1024   99       CI+VDQ   892    17 0x40     0 65535  1192  3600   897  3000 65535    10  6114  3000 window 0 3600 1373
+0:00:15.36      0  1019  1024   99       CI+VDQ   892    17 0x40     0 65535  1192  3600   897  3000 65535    10  6114  3000 read 0x0C 2
+# 0x0C: FB 03
+# 6 calls, 1 refused
+# refused with 5 (temperature out of range): 1, first standard input:5
+";
+
+/// The steps of a list without its table, as the second implementation takes them.
+pub fn steps(lines: &[&str]) -> Vec<crate::step::Step> {
+    let mut second = crate::second::Second::default();
+    lines.iter().enumerate().map(|(at, text)| second.step(at + 2, crate::line::parse(text).unwrap())).collect()
+}

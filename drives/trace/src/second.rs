@@ -1,0 +1,127 @@
+//! The second implementation, gauge and history, on the lines of a list.
+
+use crate::line::{Command, Line};
+use crate::step::Step;
+use reference::calls;
+use reference::fixing::{FixingPoint, FixingPoints};
+use reference::gauge::Gauge;
+use reference::history::{Call, History};
+use reference::refusal::{REGISTERS, SAVED};
+use reference::saved;
+use reference::trace::Trace;
+
+#[derive(Default)]
+pub struct Second {
+    trace: Option<Trace>,
+    windows: u64,
+}
+
+impl Second {
+    pub fn saved(&self) -> Option<&[u8; saved::LENGTH]> {
+        self.trace.as_ref().map(Trace::saved)
+    }
+
+    pub fn history(&self) -> Option<&History> {
+        self.trace.as_ref().map(Trace::history)
+    }
+
+    /// Takes a line, which stands in a row of the table.
+    pub fn step(&mut self, row: usize, line: Line) -> Step {
+        let from = self.windows;
+        let answer = self.answer(&line);
+        if answer.is_ok() {
+            self.windows += length(&line);
+        }
+        let (number, points) = match answer {
+            Ok(points) => (0, points),
+            Err(number) => (number, FixingPoints::default()),
+        };
+        Step { row, line, from, to: self.windows, number, gauge: self.gauge(), points }
+    }
+
+    fn gauge(&self) -> Option<Gauge> {
+        self.saved().and_then(|bytes| saved::load(bytes).ok())
+    }
+
+    fn answer(&mut self, line: &Line) -> Result<FixingPoints, u32> {
+        match line {
+            Line::Open(bytes) => {
+                self.trace = Some(Trace::open(bytes)?);
+                Ok(FixingPoints::of(FixingPoint::Opening))
+            }
+            Line::Load(bytes) => {
+                self.trace = Some(Trace::load(bytes)?);
+                Ok(FixingPoints::default())
+            }
+            Line::One(call) => self.trace.as_mut().ok_or(SAVED)?.call(call),
+            Line::Command(command) => self.command(command),
+        }
+    }
+
+    /// The writes of a command on a copy, which takes the gauge's place if none of them is refused.
+    fn command(&mut self, command: &Command) -> Result<FixingPoints, u32> {
+        let mut copy = self.trace.ok_or(SAVED)?;
+        let mode = saved::load(copy.saved())?.mode;
+        let mut points = FixingPoints::default();
+        for write in command.writes(mode) {
+            copy.call(&write)?.iter().for_each(|point| points.insert(point));
+        }
+        self.trace = Some(copy);
+        Ok(points)
+    }
+
+    /// The bytes that an accepted read copies; none for another call.
+    pub fn read(&self, line: &Line) -> Vec<u8> {
+        let mut reply = [0; REGISTERS as usize];
+        match (line, self.saved()) {
+            (&Line::One(Call::Read { address, count, .. }), Some(bytes)) => match calls::read(bytes, address, count, &mut reply, 0)
+            {
+                0 => reply[..count as usize].to_vec(),
+                _ => Vec::new(),
+            },
+            _ => Vec::new(),
+        }
+    }
+}
+
+/// The windows that an accepted call takes.
+fn length(line: &Line) -> u64 {
+    match line {
+        Line::One(Call::Window { .. }) => 1,
+        Line::One(Call::Rest { windows, .. }) => u64::from(*windows),
+        _ => 0,
+    }
+}
+
+#[cfg(test)]
+mod tests {
+    use crate::examples::steps;
+    use reference::fixing::FixingPoint::{Done, Opening};
+
+    const OPEN: &str = "open 04 5E 77 05 21 10 00 00 6C 15";
+
+    #[test]
+    fn without_a_gauge_every_call_answers_14() {
+        let numbers = |lines| steps(lines).iter().map(|step| step.number).collect::<Vec<_>>();
+        assert_eq!(numbers(&["open 04", "window 1 2 3", "done", "load 00", "read 0x00 1"]), [1, 14, 14, 14, 14]);
+        assert_eq!(numbers(&[OPEN, "open 00 5E 77 05 21 10 00 00 6C 15", "window 9 3700 1192"]), [0, 2, 0]);
+    }
+
+    #[test]
+    fn a_refused_command_changes_nothing() {
+        let steps = steps(&[OPEN, "nac 500", "lmd 0", "done"]);
+        assert_eq!(steps[2].number, 11);
+        assert_eq!(steps[2].gauge, steps[1].gauge);
+        assert!(steps[0].points.contains(Opening) && steps[3].points.contains(Done));
+        assert_eq!(steps[3].nac(), 1024);
+    }
+
+    #[test]
+    fn windows_and_rests_take_time() {
+        let steps = steps(&[OPEN, "window 9 3700 1192", "rest 100 1192", "rest 0 1192", "done"]);
+        assert_eq!(
+            steps.iter().map(|step| (step.from, step.to)).collect::<Vec<_>>(),
+            [(0, 0), (0, 1), (1, 101), (101, 101), (101, 101)]
+        );
+    }
+}
