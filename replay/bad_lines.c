@@ -38,6 +38,6 @@ void bad_line(struct bad_lines *bad, struct place place, const char *format, ...
 void bad_lines_end(const struct bad_lines *bad)
 {
     if (bad->count > REPORTED_MAX)
-        fprintf(stderr, "replay: %zu more bad lines\n", bad->count - REPORTED_MAX);
+        fprintf(stderr, "replay: %zu more bad line%s\n", bad->count - REPORTED_MAX, bad->count == REPORTED_MAX + 1 ? "" : "s");
     fprintf(stderr, "replay: nothing applied\n");
 }

@@ -159,11 +159,12 @@ void table_row(struct table *table, const struct call *call, uint32_t number, co
 
 void table_end(const struct table *table)
 {
+    printf("# %zu call%s, ", table->calls, table->calls == 1 ? "" : "s");
     if (table->refused == 0) {
-        printf("# %zu calls, none refused\n", table->calls);
+        printf("none refused\n");
         return;
     }
-    printf("# %zu calls, %zu refused\n", table->calls, table->refused);
+    printf("%zu refused\n", table->refused);
     for (uint32_t number = 0; number <= GAUGE_REFUSED_SAVED; number++) {
         const struct refusals *refusals = &table->refusals[number];
         if (refusals->count > 0)

@@ -29,7 +29,7 @@ run --save folder/absent/saved right.txt
 expect "a file of --save that cannot be made" "replay: folder/absent/saved: cannot be written: No such file or directory
 1" "$(cat messages)
 $status"
-expect "the table is printed all the same" "# 1 calls, none refused" "$(tail -n 1 printed)"
+expect "the table is printed all the same" "# 1 call, none refused" "$(tail -n 1 printed)"
 run --save folder right.txt
 expect "a folder for --save" "replay: folder: cannot be written: Is a directory
 1" "$(cat messages)

@@ -50,8 +50,8 @@ expect "c v t in the second list opens nothing" "$bench_open"$'\nwindow 2 3700 1
     "$(list second.txt 'c v t\n3 3700 1192\n'; list first.txt 'c v t\n2 3700 1192\n'; run first.txt second.txt; rows | sed 's/.*  *\(open\|window\)/\1/')"
 expect "c v t opens where the list before it has no call" "$bench_open" \
     "$(list second.txt 'c v t\n'; list first.txt '# none\n'; run first.txt second.txt; rows | sed 's/.*open/open/')"
-expect "c v t after load opens nothing" "1 calls" \
-    "$(list first.txt 'load 01\n'; list second.txt 'c v t\n'; run first.txt second.txt; sed -n 's/^# \(1 calls\).*/\1/p' printed)"
+expect "c v t after load opens nothing" "1 call" \
+    "$(list first.txt 'load 01\n'; list second.txt 'c v t\n'; run first.txt second.txt; sed -n 's/^# \(1 call\).*/\1/p' printed)"
 
 thousand="# $(printf '%0998d' 0)"
 expect "a line of 1000 bytes is right" "$bench_open" "$(calls_of "open bench\n$thousand\n")"

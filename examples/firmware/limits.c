@@ -1,0 +1,89 @@
+/*
+ * Holds the header's limits, lengths and form to the gauge: what lies on a limit is accepted, and what lies just beyond is refused
+ * with the limit's own number.
+ */
+#include "gauge.h"
+
+#include <stdio.h>
+
+enum { CURRENT = -100, VOLTAGE = 3600, TEMPERATURE = 1192 };
+
+static const uint8_t bench_pack[GAUGE_CONFIGURATION_LENGTH + 1] = {
+    0x04, 0x5E, 0x77, 0x05, 0x21, 0x10, 0x00, 0x00, 0x6C, 0x15,
+};
+
+static int failures;
+
+static void limit(const char *name, uint32_t on_it, uint32_t beyond, enum gauge_refusal refusal)
+{
+    if (on_it == GAUGE_OK && beyond == refusal)
+        return;
+    printf("%s: %u on the limit, %u beyond it (%s)\n", name, (unsigned)on_it, (unsigned)beyond, gauge_refusal_text(beyond));
+    failures++;
+}
+
+static uint32_t open(size_t configuration_length, size_t saved_length)
+{
+    uint8_t saved[GAUGE_SAVED_LENGTH + 1];
+
+    return gauge_open(bench_pack, configuration_length, saved, saved_length);
+}
+
+/* The calls below are each made on a new gauge. */
+static uint32_t window(int32_t current, int32_t voltage, int32_t temperature)
+{
+    uint8_t saved[GAUGE_SAVED_LENGTH];
+    uint32_t number = gauge_open(bench_pack, GAUGE_CONFIGURATION_LENGTH, saved, sizeof saved);
+
+    return number != GAUGE_OK ? number : gauge_window(saved, sizeof saved, current, voltage, temperature);
+}
+
+static uint32_t rest(uint32_t windows)
+{
+    uint8_t saved[GAUGE_SAVED_LENGTH];
+    uint32_t number = gauge_open(bench_pack, GAUGE_CONFIGURATION_LENGTH, saved, sizeof saved);
+
+    return number != GAUGE_OK ? number : gauge_rest(saved, sizeof saved, windows, TEMPERATURE);
+}
+
+static uint32_t read(uint32_t count)
+{
+    uint8_t saved[GAUGE_SAVED_LENGTH], reply[GAUGE_REGISTERS + 1];
+    uint32_t number = gauge_open(bench_pack, GAUGE_CONFIGURATION_LENGTH, saved, sizeof saved);
+
+    return number != GAUGE_OK ? number : gauge_read(saved, sizeof saved, 0, count, reply, sizeof reply, 0);
+}
+
+static void form(void)
+{
+    uint8_t saved[GAUGE_SAVED_LENGTH] = {0};
+
+    if (gauge_open(bench_pack, GAUGE_CONFIGURATION_LENGTH, saved, sizeof saved) == GAUGE_OK && saved[0] == GAUGE_FORM)
+        return;
+    printf("the first of the saved bytes is %u, not %u\n", (unsigned)saved[0], (unsigned)GAUGE_FORM);
+    failures++;
+}
+
+int main(void)
+{
+    limit("greatest charge current", window(GAUGE_CURRENT_MAX, VOLTAGE, TEMPERATURE),
+          window(GAUGE_CURRENT_MAX + 1, VOLTAGE, TEMPERATURE), GAUGE_REFUSED_CURRENT);
+    limit("greatest discharge current", window(-GAUGE_CURRENT_MAX, VOLTAGE, TEMPERATURE),
+          window(-GAUGE_CURRENT_MAX - 1, VOLTAGE, TEMPERATURE), GAUGE_REFUSED_CURRENT);
+    limit("least voltage", window(CURRENT, GAUGE_VOLTAGE_MIN, TEMPERATURE), window(CURRENT, GAUGE_VOLTAGE_MIN - 1, TEMPERATURE),
+          GAUGE_REFUSED_VOLTAGE);
+    limit("greatest voltage", window(CURRENT, GAUGE_VOLTAGE_MAX, TEMPERATURE),
+          window(CURRENT, GAUGE_VOLTAGE_MAX + 1, TEMPERATURE), GAUGE_REFUSED_VOLTAGE);
+    limit("least temperature", window(CURRENT, VOLTAGE, GAUGE_TEMPERATURE_MIN), window(CURRENT, VOLTAGE, GAUGE_TEMPERATURE_MIN - 1),
+          GAUGE_REFUSED_TEMPERATURE);
+    limit("greatest temperature", window(CURRENT, VOLTAGE, GAUGE_TEMPERATURE_MAX),
+          window(CURRENT, VOLTAGE, GAUGE_TEMPERATURE_MAX + 1), GAUGE_REFUSED_TEMPERATURE);
+    limit("longest rest", rest(GAUGE_REST_MAX), rest(GAUGE_REST_MAX + 1), GAUGE_REFUSED_REST_LENGTH);
+    limit("registers", read(GAUGE_REGISTERS), read(GAUGE_REGISTERS + 1), GAUGE_REFUSED_COUNT);
+    limit("configuration", open(GAUGE_CONFIGURATION_LENGTH, GAUGE_SAVED_LENGTH),
+          open(GAUGE_CONFIGURATION_LENGTH + 1, GAUGE_SAVED_LENGTH), GAUGE_REFUSED_CONFIGURATION_LENGTH);
+    limit("saved bytes", open(GAUGE_CONFIGURATION_LENGTH, GAUGE_SAVED_LENGTH),
+          open(GAUGE_CONFIGURATION_LENGTH, GAUGE_SAVED_LENGTH + 1), GAUGE_REFUSED_REPLY);
+    form();
+    return failures == 0 ? 0 : 1;
+}
