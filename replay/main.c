@@ -12,12 +12,19 @@
 
 enum status { STATUS_DONE = 0, STATUS_FAILED = 1, STATUS_BAD_INPUT = 2 };
 
+static const char usage[] = "usage: replay [--all] [--save FILE] [LIST ..]\n";
+
 struct options {
     bool all;
     const char *save;
     const char **files; /* the LISTs in order, "-" for standard input */
     size_t count;
 };
+
+static bool asks_for_help(int count, char **arguments)
+{
+    return count == 2 && strcmp(arguments[1], "--help") == 0;
+}
 
 /* False on bad usage. files has room for every argument, and for one. */
 static bool read_options(int count, char **arguments, struct options *options)
@@ -118,8 +125,11 @@ int main(int count, char **arguments)
 
     if (options.files == NULL || texts == NULL) {
         status = no_memory();
+    } else if (asks_for_help(count, arguments)) {
+        fputs(usage, stdout);
+        status = STATUS_DONE;
     } else if (!read_options(count, arguments, &options)) {
-        fprintf(stderr, "usage: replay [--all] [--save FILE] [LIST ..]\n");
+        fputs(usage, stderr);
         status = STATUS_BAD_INPUT;
     } else {
         status = replay(&options, texts);

@@ -3,11 +3,13 @@
 
 usage='usage: replay [--all] [--save FILE] [LIST ..]'
 list right.txt 'open bench\n'
-for arguments in '--al right.txt' '-a right.txt' 'right.txt --save' '--save one.saved --save two.saved right.txt' '--help' '--' '--save=one.saved right.txt'; do
+for arguments in '--al right.txt' '-a right.txt' 'right.txt --save' '--save one.saved --save two.saved right.txt' '--help right.txt' '--' '--save=one.saved right.txt'; do
     # shellcheck disable=SC2086 # each word an argument
     run $arguments
     expect "usage: $arguments" "$usage 2" "$(cat messages) $status$(cat printed)"
 done
+run --help
+expect "help" "$usage 0" "$(cat printed) $status$(cat messages)"
 expect "bad usage saves nothing" "" "$(ls ./*one.saved ./*two.saved 2>/dev/null)"
 
 run right.txt --all
