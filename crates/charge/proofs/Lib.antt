@@ -1,2 +1,3 @@
 pub mod ChargeLaws
 pub mod RestLaws
+pub mod RunKept

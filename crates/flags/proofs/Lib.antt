@@ -1,1 +1,2 @@
+pub mod FlagsByteLaws
 pub mod FlagsLaws

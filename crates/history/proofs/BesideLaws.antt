@@ -31,10 +31,10 @@ use Rattle.history.specs.History.{History, afterCommand, afterKey, after
 use Rattle.history.specs.History.{withoutCommand}
 use Rattle.history.specs.Tests.{countedCurrent}
 use Rattle.history.proofs.AnswerLaws.{InRange}
-use Rattle.history.proofs.ChargeKept.{chargeAfter}
+use Rattle.reached.proofs.ChargeKept.{chargeAfter}
 use Rattle.history.proofs.CommandTracks.{HostTracks, full-host, host-decides, obeyed-host, command-tracks, stored-host}
 use Rattle.history.proofs.RestTracks.{rest-tracks}
-use Rattle.history.proofs.SampleKept.{counted-within}
+use Rattle.sample.proofs.SampleKept.{counted-within}
 use Rattle.history.proofs.Standing.{Standing, bounded, rate-low}
 use Rattle.history.proofs.Tracking.{Tracks}
 use Rattle.history.proofs.WindowTracks.{window-tracks}

@@ -1,15 +1,10 @@
 pub mod AnswerLaws
 pub mod BesideLaws
-pub mod ChargeKept
 pub mod CommandTracks
-pub mod DecisionLaws
 pub mod DifferenceLaws
-pub mod HostKept
 pub mod ListLaws
 pub mod NumberLaws
 pub mod RestTracks
-pub mod RunKept
-pub mod SampleKept
 pub mod Standing
 pub mod StayLaws
 pub mod SumTracks

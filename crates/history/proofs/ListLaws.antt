@@ -31,10 +31,10 @@ use Rattle.history.specs.History.{History, afterCall, afterCalls, afterW
 use Rattle.history.specs.Refused.{refusalOf}
 use Rattle.history.proofs.AnswerLaws.{not-rejected, rest-in-range, window-in-range}
 use Rattle.history.proofs.BesideLaws.{Beside, rest-beside, window-beside, written-beside}
-use Rattle.history.proofs.ChargeKept.{opened-bounded}
-use Rattle.history.proofs.HostKept.{opened-fits}
+use Rattle.reached.proofs.ChargeKept.{opened-bounded}
+use Rattle.host.proofs.HostKept.{opened-fits}
 use Rattle.history.proofs.NumberLaws.{number-most, numbers-alike}
-use Rattle.history.proofs.SampleKept.{no-sample, opened-standby}
+use Rattle.sample.proofs.SampleKept.{no-sample, opened-standby}
 use Rattle.history.proofs.Standing.{Standing, standing, taken}
 use Rattle.history.proofs.StayLaws.{call-stands}
 use Rattle.history.proofs.Tracking.{fixed-is}

@@ -19,7 +19,7 @@ use Rattle.history.specs.Call.{Call}
 use Rattle.history.specs.Call as Call
 use Rattle.history.specs.Refused.{refusalOf}
 use Rattle.history.proofs.CommandTracks.{HostTracks, host-decides}
-use Rattle.history.proofs.DecisionLaws.{key-most}
+use Rattle.command.proofs.DecisionLaws.{key-most}
 
 -- ---- the history's number
 

@@ -6,7 +6,7 @@ use Rattle.charge.specs.declared.charge.Charge.{Charge}
 use Rattle.configuration.specs.Terms.{Terms}
 use Rattle.grains.specs.Leak.{leakRate}
 use Rattle.history.specs.Account.{Account, afterRest, afterRestWindow}
-use Rattle.history.proofs.ChargeKept.{Bounded, once-bounded}
+use Rattle.reached.proofs.ChargeKept.{Bounded, once-bounded}
 use Rattle.history.proofs.SumTracks.{once-tracks}
 use Rattle.history.proofs.Tracking.{Tracks}
 

@@ -16,9 +16,9 @@ use Rattle.grains.proofs.LeakLaws.{leak-rate-within}
 use Rattle.sample.specs.Limits.{leastTemperature, leastVoltage, mostTemperature, mostVoltage}
 use Rattle.sample.specs.Standby.{standbyAccepted}
 use Rattle.history.specs.Claim.{Taken}
-use Rattle.history.proofs.ChargeKept.{Bounded}
-use Rattle.history.proofs.HostKept.{HostFits}
-use Rattle.history.proofs.SampleKept.{current-fits, value-fits}
+use Rattle.reached.proofs.ChargeKept.{Bounded}
+use Rattle.host.proofs.HostKept.{HostFits}
+use Rattle.sample.proofs.SampleKept.{current-fits, value-fits}
 
 pub record Standing (g : Gauge) : Type 0 where
   pub ten : TenBytes (g .configuration)

@@ -33,10 +33,10 @@ use Rattle.history.specs.Call.{Call}
 use Rattle.history.specs.Call as Call
 use Rattle.history.specs.Claim.{StaysAccepted}
 use Rattle.history.proofs.AnswerLaws.{InRange, not-rejected, rest-in-range, window-in-range}
-use Rattle.history.proofs.ChargeKept.{command-bounded, rest-bounded, window-bounded}
-use Rattle.history.proofs.DecisionLaws.{wrtlmd-above}
-use Rattle.history.proofs.HostKept.{full-fits, obeyed-fits, stored-fits}
-use Rattle.history.proofs.SampleKept.{averaged-kept, counted-within, no-sample, opened-standby, rest-sample, window-sample}
+use Rattle.reached.proofs.ChargeKept.{command-bounded, rest-bounded, window-bounded}
+use Rattle.command.proofs.DecisionLaws.{wrtlmd-above}
+use Rattle.host.proofs.HostKept.{full-fits, obeyed-fits, stored-fits}
+use Rattle.sample.proofs.SampleKept.{averaged-kept, counted-within, no-sample, opened-standby, rest-sample, window-sample}
 use Rattle.history.proofs.Standing.{Standing, bounded, opens, rate-low, standing, taken}
 
 -- ---- each call's work

@@ -23,7 +23,7 @@ use Rattle.history.specs.Account.{Account, afterRestWindow, afterSums, l
 use Rattle.history.specs.Claim.{runOf}
 use Rattle.history.specs.Drain.{gains, unlessAbove}
 use Rattle.history.specs.Sums.{chargeOf, grainsACount, grainsAUnit, withCurrent, withLeak}
-use Rattle.history.proofs.ChargeKept.{Bounded, leak-most}
+use Rattle.reached.proofs.ChargeKept.{Bounded, leak-most}
 use Rattle.history.proofs.DifferenceLaws.{Difference, is-natural}
 use Rattle.history.proofs.Tracking.{Tracks, drain-is, drainIn, drained-is, gained-drain, gains-again, passing-is}
 use Rattle.history.proofs.Tracking.{leaked-difference, moved-difference}

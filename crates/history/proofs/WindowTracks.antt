@@ -25,7 +25,7 @@ use Rattle.sample.specs.Range.{currentOf}
 use Rattle.history.specs.Account.{Account, afterEmptyStop, afterFull, afterSums, afterVoltage, afterWindow, fixing}
 use Rattle.history.specs.Sums.{chargeOf, grainsACount}
 use Rattle.history.specs.Tests.{reachesE1, reachesEdvf, reachesFull, stopsEmpty}
-use Rattle.history.proofs.ChargeKept.{Bounded, chargeAfter, leak-most, moved-held}
+use Rattle.reached.proofs.ChargeKept.{Bounded, chargeAfter, leak-most, moved-held}
 use Rattle.history.proofs.DifferenceLaws.{above-zero, at-most-zero, is-natural}
 use Rattle.history.proofs.SumTracks.{sums-difference, sums-lmd, sums-run}
 use Rattle.history.proofs.Tracking.{Tracks, fixed-is}

@@ -1,1 +1,2 @@
+pub mod HostKept
 pub mod HostLaws

@@ -1,4 +1,3 @@
-pub mod FlagsByteLaws
 pub mod FormLaws
 pub mod LoadLaws
 pub mod PutLaws

@@ -19,7 +19,7 @@ use Rattle.numbers.proofs.LittleLaws.{number-fits, whole, write-back}
 use Rattle.numbers.specs.Little.{bytesAt, little}
 use Rattle.refusals.specs.Refusal as Refusal
 use Rattle.sample.specs.Sample.{currentAccepted}
-use Rattle.saved.proofs.FlagsByteLaws.{byte-accepted, byte-back, byte-fits, flags-back, vdq-back}
+use Rattle.flags.proofs.FlagsByteLaws.{byte-accepted, byte-back, byte-fits, flags-back, vdq-back}
 use Rattle.saved.proofs.FormLaws.{field-found, fields-held, has, number-found}
 use Rattle.saved.proofs.LoadLaws.{charge-alike, form-first, form-flags, form-length, gauge-alike, host-alike, sample-alike}
 use Rattle.saved.proofs.SaveLaws.{saved-length}

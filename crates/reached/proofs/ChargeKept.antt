@@ -19,14 +19,14 @@ use Rattle.grains.specs.Leak.{leak}
 use Rattle.grains.specs.Learning.{learned}
 use Rattle.grains.specs.Run.{drained, startedRun}
 use Rattle.grains.proofs.LeakLaws.{leak-within}
 use Rattle.reached.specs.Ending.{endingOf}
 use Rattle.reached.specs.Full.{isFull, taperVoltage}
 use Rattle.reached.specs.Reached.{chargeEnded, filledIf}
 use Rattle.reached.specs.declared.ending.Ending.{Ending}
 use Rattle.reached.specs.declared.ending.Ending.the-variants.{Above, Edvf, Edv1, Qualified}
 use Rattle.sample.specs.Current.{charge, discharge}
 use Rattle.sample.specs.declared.current.Current.{Current}
-use Rattle.history.proofs.RunKept.{drained-none, moved-run-sound, none-sound, passed-sound, started-sound}
+use Rattle.charge.proofs.RunKept.{drained-none, moved-run-sound, none-sound, passed-sound, started-sound}
 
 pub record Bounded (y : Charge) : Type 0 where
   pub sound : ChargeSound y

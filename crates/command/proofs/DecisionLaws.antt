@@ -1,18 +1,13 @@
 -- What a key decides: WRTLMD is obeyed only where AR is above 0, and a refusal's number is at most 13. Assumes nothing.
 use Prim.Native.Nat.{ℕ, _<_, _≤_}
-use Prim.Native.Nat.{ℕ, _≤_}
 use Rattle.command.specs.Command.{decide, decide56, decideA9, decisionNumber, highestCommandBit, noBit}
-use Rattle.command.specs.Command.{decide, decide56, decideA9, highestCommandBit, noBit}
 use Rattle.command.specs.declared.command.Command.the-variants.{Wrtnac, Done, Prst, Frst, Wrtlmd}
 use Rattle.command.specs.declared.command.Decision.the-variants.{Obey, Refused}
 use Rattle.command.specs.declared.command.Decision.{Decision}
 use Rattle.refusals.specs.Refusal as Refusal
 use borrow.Author.Tests.{eqb-false}
 use lib.Dec.{eqb}
-use lib.Dec.{eqb}
 use mathlib.Core.Bool.{Bool, false, true, cond}
-use mathlib.Core.Bool.{Bool, true, false, cond}
-use mathlib.Core.Path.{_≡_}
 use mathlib.Core.Path.{_≡_, refl}
 use native.Mathlib.Omega.{arith}
 
