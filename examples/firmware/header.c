@@ -1,6 +1,6 @@
 /*
- * Holds the header's limits, lengths and form to the gauge: what lies on a limit is accepted, and what lies just beyond is refused
- * with the limit's own number.
+ * Holds the header's limits, lengths, form and configuration addresses to the gauge: what lies on a limit is accepted, and what lies just
+ * beyond is refused with the limit's own number. The addresses of the other registers are held by replay, whose tables name them.
  */
 #include "gauge.h"
 
@@ -64,6 +64,27 @@ static void form(void)
     failures++;
 }
 
+/* Ten bytes that all differ, so that none can stand for another. */
+static void configuration_addresses(void)
+{
+    static const enum gauge_register addresses[GAUGE_CONFIGURATION_LENGTH] = {
+        GAUGE_REG_ILMD,  GAUGE_REG_SEDVF, GAUGE_REG_SEDV1, GAUGE_REG_ISLC,  GAUGE_REG_DMFSD,
+        GAUGE_REG_TAPER, GAUGE_REG_PKCFG, GAUGE_REG_ID3,   GAUGE_REG_DCOMP, GAUGE_REG_TCOMP,
+    };
+    uint8_t pack[GAUGE_CONFIGURATION_LENGTH], saved[GAUGE_SAVED_LENGTH], shown[1];
+
+    for (unsigned i = 0; i < GAUGE_CONFIGURATION_LENGTH; i++)
+        pack[i] = (uint8_t)(i + 1);
+    uint32_t number = gauge_open(pack, sizeof pack, saved, sizeof saved);
+    for (unsigned i = 0; i < GAUGE_CONFIGURATION_LENGTH; i++) {
+        number |= gauge_read(saved, sizeof saved, addresses[i], 1, shown, sizeof shown, 0);
+        if (number == GAUGE_OK && shown[0] == pack[i])
+            continue;
+        printf("configuration byte %u is not at 0x%02X\n", i, (unsigned)addresses[i]);
+        failures++;
+    }
+}
+
 int main(void)
 {
     limit("greatest charge current", window(GAUGE_CURRENT_MAX, VOLTAGE, TEMPERATURE),
@@ -85,5 +106,6 @@ int main(void)
     limit("saved bytes", open(GAUGE_CONFIGURATION_LENGTH, GAUGE_SAVED_LENGTH),
           open(GAUGE_CONFIGURATION_LENGTH, GAUGE_SAVED_LENGTH + 1), GAUGE_REFUSED_REPLY);
     form();
+    configuration_addresses();
     return failures == 0 ? 0 : 1;
 }
