@@ -1,12 +1,10 @@
 /* Makes one kind of call a given number of times, for run, which takes the instructions of two such runs apart. */
+#include "bench_pack.h"
 #include "gauge.h"
 
 #include <stdlib.h>
 #include <string.h>
 
-static const uint8_t bench_pack[GAUGE_CONFIGURATION_LENGTH] = {
-    0x04, 0x5E, 0x77, 0x05, 0x21, 0x10, 0x00, 0x00, 0x6C, 0x15,
-};
 static uint8_t saved[GAUGE_SAVED_LENGTH];
 static uint8_t reply[GAUGE_REGISTERS];
 

@@ -1,15 +1,12 @@
 #include "list.h"
 
+#include "bench_pack.h"
 #include "words.h"
 
 #include <stdlib.h>
 #include <string.h>
 
 enum { LINE_LENGTH_MAX = 1000, FIRST_ROOM = 1024 };
-
-static const uint8_t bench_pack[GAUGE_CONFIGURATION_LENGTH] = {
-    0x04, 0x5E, 0x77, 0x05, 0x21, 0x10, 0x00, 0x00, 0x6C, 0x15,
-};
 
 static const char *const bench_heading[] = {"c", "v", "t"};
 static const char *const bench_word[] = {"bench"};

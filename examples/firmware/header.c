@@ -2,15 +2,13 @@
  * Holds the header's limits, lengths, form and configuration addresses to the gauge: what lies on a limit is accepted, and what lies just
  * beyond is refused with the limit's own number. The addresses of the other registers are held by replay, whose tables name them.
  */
+#include "bench_pack.h"
 #include "gauge.h"
 
 #include <stdio.h>
+#include <string.h>
 
 enum { CURRENT = -100, VOLTAGE = 3600, TEMPERATURE = 1192 };
-
-static const uint8_t bench_pack[GAUGE_CONFIGURATION_LENGTH + 1] = {
-    0x04, 0x5E, 0x77, 0x05, 0x21, 0x10, 0x00, 0x00, 0x6C, 0x15,
-};
 
 static int failures;
 
@@ -24,16 +22,17 @@ static void limit(const char *name, uint32_t on_it, uint32_t beyond, enum gauge_
 
 static uint32_t open(size_t configuration_length, size_t saved_length)
 {
-    uint8_t saved[GAUGE_SAVED_LENGTH + 1];
+    uint8_t configuration[GAUGE_CONFIGURATION_LENGTH + 1] = {0}, saved[GAUGE_SAVED_LENGTH + 1];
 
-    return gauge_open(bench_pack, configuration_length, saved, saved_length);
+    memcpy(configuration, bench_pack, sizeof bench_pack);
+    return gauge_open(configuration, configuration_length, saved, saved_length);
 }
 
 /* The calls below are each made on a new gauge. */
 static uint32_t window(int32_t current, int32_t voltage, int32_t temperature)
 {
     uint8_t saved[GAUGE_SAVED_LENGTH];
-    uint32_t number = gauge_open(bench_pack, GAUGE_CONFIGURATION_LENGTH, saved, sizeof saved);
+    uint32_t number = gauge_open(bench_pack, sizeof bench_pack, saved, sizeof saved);
 
     return number != GAUGE_OK ? number : gauge_window(saved, sizeof saved, current, voltage, temperature);
 }
@@ -41,7 +40,7 @@ static uint32_t window(int32_t current, int32_t voltage, int32_t temperature)
 static uint32_t rest(uint32_t windows)
 {
     uint8_t saved[GAUGE_SAVED_LENGTH];
-    uint32_t number = gauge_open(bench_pack, GAUGE_CONFIGURATION_LENGTH, saved, sizeof saved);
+    uint32_t number = gauge_open(bench_pack, sizeof bench_pack, saved, sizeof saved);
 
     return number != GAUGE_OK ? number : gauge_rest(saved, sizeof saved, windows, TEMPERATURE);
 }
@@ -49,7 +48,7 @@ static uint32_t rest(uint32_t windows)
 static uint32_t read(uint32_t count)
 {
     uint8_t saved[GAUGE_SAVED_LENGTH], reply[GAUGE_REGISTERS + 1];
-    uint32_t number = gauge_open(bench_pack, GAUGE_CONFIGURATION_LENGTH, saved, sizeof saved);
+    uint32_t number = gauge_open(bench_pack, sizeof bench_pack, saved, sizeof saved);
 
     return number != GAUGE_OK ? number : gauge_read(saved, sizeof saved, 0, count, reply, sizeof reply, 0);
 }
@@ -58,7 +57,7 @@ static void form(void)
 {
     uint8_t saved[GAUGE_SAVED_LENGTH] = {0};
 
-    if (gauge_open(bench_pack, GAUGE_CONFIGURATION_LENGTH, saved, sizeof saved) == GAUGE_OK && saved[0] == GAUGE_FORM)
+    if (gauge_open(bench_pack, sizeof bench_pack, saved, sizeof saved) == GAUGE_OK && saved[0] == GAUGE_FORM)
         return;
     printf("the first of the saved bytes is %u, not %u\n", (unsigned)saved[0], (unsigned)GAUGE_FORM);
     failures++;

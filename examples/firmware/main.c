@@ -2,15 +2,12 @@
  * A drive as a handset's firmware would run it on the bench pack. The numbers printed are fixed by the rules of the gauge alone;
  * expected.txt holds them, worked out by another implementation.
  */
+#include "bench_pack.h"
 #include "gauge.h"
 
 #include <stdio.h>
 #include <stdlib.h>
 #include <string.h>
-
-static const uint8_t bench_pack[GAUGE_CONFIGURATION_LENGTH] = {
-    0x04, 0x5E, 0x77, 0x05, 0x21, 0x10, 0x00, 0x00, 0x6C, 0x15,
-};
 
 /* The gauge itself. On a handset these bytes lie in RAM that is copied to flash or battery-backed memory. */
 static uint8_t saved[GAUGE_SAVED_LENGTH];
