@@ -30,6 +30,14 @@ pub enum Command {
     Wrtlmd,
 }
 
+impl Command {
+    /// Its bit of MODE, and the key that carries it.
+    pub fn bit_and_key(self) -> (u8, u8) {
+        let row = COMMAND_BITS.iter().find(|(_, _, command)| *command == self);
+        row.map(|&(bit, key, _)| (bit, key)).expect("every command has a bit")
+    }
+}
+
 /// What a key at CTRL does: the command of the highest set bit of MODE among the five, if this key carries it. Refuses 8 to 11.
 pub fn decide(key: u8, mode: u8, ar: i32) -> Result<Command, u32> {
     if key != 0xA9 && key != 0x56 {

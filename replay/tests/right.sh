@@ -16,9 +16,9 @@ expect "bench pack: as -" "$(cat "$parts/bench-pack.table")" "$(cat printed)"
 run <"$parts/bench-pack.txt"
 expect "bench pack: on standard input" "$(cat "$parts/bench-pack.table")" "$(cat printed)"
 
-# FLAGS of the request's output, as the byte: 16, 148, 20.
+# FLAGS of the request's output, 16, 148 and 20, by name.
 run "$parts/bench-pack.txt"
-expect "bench pack: FLAGS as bytes" "16 148 20" "$(windows_as_bench_prints | awk '{ printf "%s%s", (NR > 1 ? " " : ""), $4 }')"
+expect "bench pack: FLAGS" "CI CHGS+CI+VDQ CI+VDQ" "$(rows | awk '$9 == "window" { printf "%s%s", (n++ ? " " : ""), $6 }')"
 
 calls_of() { # TEXT: the calls of a list as the table shows them
     list calls.txt "$1"

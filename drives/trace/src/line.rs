@@ -1,6 +1,6 @@
 //! The last column of the table: a call in the one form in which `replay` writes it.
 
-use reference::command::ALL_COMMAND_BITS;
+use reference::command::{self, ALL_COMMAND_BITS};
 use reference::history::Call;
 use reference::refusal::REGISTERS;
 
@@ -13,11 +13,10 @@ pub enum Line {
     Command(Command),
 }
 
-/// A command as a host gives it: its bit of MODE, its key, and AR where it needs one.
+/// A command as a host gives it, with AR where it needs one.
 #[derive(Clone, Copy, Debug, PartialEq, Eq)]
 pub struct Command {
-    bit: u8,
-    key: u8,
+    command: command::Command,
     ar: Option<u16>,
 }
 
@@ -25,12 +24,13 @@ impl Command {
     /// The writes, from the MODE that stands before them. MODE keeps the bits that are no commands.
     pub fn writes(&self, mode: u8) -> Vec<Call> {
         let write = |address, value| Call::Write { address, value };
+        let (bit, key) = self.command.bit_and_key();
         let mut writes = Vec::new();
         if let Some(ar) = self.ar {
             let [low, high] = ar.to_le_bytes();
-            writes.extend([write(0x02, low), write(0x03, high)]);
+            writes.extend([write(command::AR_LOW, low), write(command::AR_HIGH, high)]);
         }
-        writes.extend([write(0x01, mode & !ALL_COMMAND_BITS | self.bit), write(0x00, self.key)]);
+        writes.extend([write(command::MODE, mode & !ALL_COMMAND_BITS | bit), write(command::CTRL, key)]);
         writes
     }
 }
@@ -41,15 +41,16 @@ pub fn parse(text: &str) -> Result<Line, String> {
 }
 
 fn line(words: &[&str]) -> Option<Line> {
-    let command = |bit, key, ar| Some(Line::Command(Command { bit, key, ar }));
+    use command::Command::{Done, Frst, Prst, Wrtlmd, Wrtnac};
+    let command = |command, ar| Some(Line::Command(Command { command, ar }));
     match *words {
         ["open", ref bytes @ ..] => Some(Line::Open(hexadecimal(bytes)?)),
         ["load", ref bytes @ ..] => Some(Line::Load(hexadecimal(bytes)?)),
-        ["done"] => command(0x10, 0xA9, None),
-        ["reset"] => command(0x02, 0xA9, None),
-        ["partial"] => command(0x08, 0xA9, None),
-        ["nac", n] => command(0x20, 0xA9, Some(number(n)?)),
-        ["lmd", n] => command(0x01, 0x56, Some(number(n)?)),
+        ["done"] => command(Done, None),
+        ["reset"] => command(Frst, None),
+        ["partial"] => command(Prst, None),
+        ["nac", n] => command(Wrtnac, Some(number(n)?)),
+        ["lmd", n] => command(Wrtlmd, Some(number(n)?)),
         _ => call(words).map(Line::One),
     }
 }
