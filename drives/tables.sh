@@ -13,6 +13,14 @@ usage() {
     exit 2
 }
 
+# takes_lists NAME ARGUMENT ..: the arguments are lists and a picture, or the script ends. Without the ending the last one may be a list,
+# which must not be written over.
+takes_lists() {
+    if [ $# -lt 3 ] || [[ "${*: -1}" != *.png ]]; then
+        usage "$1 LIST .. OUT.png"
+    fi
+}
+
 # A folder for the tables of one run, which goes when the script ends.
 make_room() {
     room=$(mktemp -d)
@@ -44,12 +52,13 @@ draw() {
     echo "drives: $3 is drawn"
 }
 
-# A list's name as a title: its file name without the ending.
+# title_of LIST ..: the first list's name as a title, its file name without the ending, and how many there are beside it.
 title_of() {
     local name
     name=$(basename -- "$1")
     [ "$name" != - ] || name="standard input"
     name=${name%.txt}
     name=${name//-/ }
+    [ $# -eq 1 ] || name="$name and $(($# - 1)) more"
     echo "${name^}"
 }

@@ -1,5 +1,5 @@
 /*
- * The battery gauge's five calls for C (C99 and later) and C++ firmware.
+ * The battery gauge's six calls for C (C99 and later) and C++ firmware.
  *
  * The firmware owns the gauge: 41 bytes that it keeps in RAM and copies to non-volatile memory as it likes. Every call
  * gets those bytes and keeps nothing between calls: no writable static data, no allocation. So a gauge may be copied, and two
@@ -24,11 +24,12 @@ extern "C" {
 #endif
 
 /* The version of the calls and of this file; a new minor one adds, a new major one changes. */
-#define GAUGE_VERSION "1.0.0"
-#define GAUGE_VERSION_NUMBER 10000 /* 10000 * major + 100 * minor + the rest */
+#define GAUGE_VERSION "2.0.0"
+#define GAUGE_VERSION_NUMBER 20000 /* 10000 * major + 100 * minor + the rest */
 
-/* The form of the saved bytes, which is their first byte. */
-#define GAUGE_FORM 1
+/* The form of the saved bytes, which is their first byte. gauge_convert also reads the older ones, from GAUGE_FORM_OLDEST on. */
+#define GAUGE_FORM 2
+#define GAUGE_FORM_OLDEST 1
 
 #define GAUGE_CONFIGURATION_LENGTH 10
 #define GAUGE_SAVED_LENGTH 41
@@ -56,8 +57,8 @@ enum gauge_refusal {
     GAUGE_REFUSED_NOT_CARRIED = 10,         /* the command does not belong to this key */
     GAUGE_REFUSED_LMD_ZERO = 11,            /* WRTLMD with AR 0 */
     GAUGE_REFUSED_COUNT = 12,               /* count 0, or address + count above 128 */
-    GAUGE_REFUSED_REPLY = 13,               /* place + count beyond the reply; opening: saved not 41 bytes */
-    GAUGE_REFUSED_SAVED = 14                /* the saved bytes are no gauge: damaged, cleared or of another length */
+    GAUGE_REFUSED_REPLY = 13,               /* place + count beyond the reply; opening, converting: saved not 41 bytes */
+    GAUGE_REFUSED_SAVED = 14                /* the saved bytes are no gauge: damaged, cleared, of another length or form */
 };
 
 /* Register addresses, named as in the bqJUNIOR data sheet. "pair": two bytes, low byte first. Bytes not named here read 0. */
@@ -77,7 +78,7 @@ enum gauge_register {
     GAUGE_REG_IAV = 0x14,   /* pair: amount of the counted current, units; its direction is CHGS */
     GAUGE_REG_TTE = 0x16,   /* pair: time to empty, minutes; 65535 unless discharging */
     GAUGE_REG_TTF = 0x18,   /* pair: time to full, minutes; 65535 unless charging */
-    GAUGE_REG_SI = 0x1A,    /* pair: standby current, units */
+    GAUGE_REG_SI = 0x1A,    /* pair: standby current, units, rounded up; the gauge keeps it in sixteenths */
     GAUGE_REG_STTE = 0x1C,  /* pair: time to empty at SI, minutes */
     GAUGE_REG_CEDV = 0x20,  /* pair: first end-of-discharge voltage, mV */
     GAUGE_REG_ILMD = 0x76,  /* the ten configuration bytes, 0x76 to 0x7F */
@@ -128,6 +129,14 @@ enum gauge_key {
 uint32_t gauge_open(const uint8_t *configuration, size_t configuration_length, uint8_t *saved, size_t saved_length);
 
 /*
+ * Brings bytes that an older version of the gauge saved over to GAUGE_FORM: charge, capacity, run, MODE, AR and all else as they
+ * were. For a handset whose firmware is updated while a gauge is in its memory: every other call answers 14 to an older form.
+ * Bytes that already are of GAUGE_FORM come out the same. old is only read; success fills the 41 bytes at saved.
+ * Refuses, in this order: 14 (of the bytes at old), 13.
+ */
+uint32_t gauge_convert(const uint8_t *old, size_t old_length, uint8_t *saved, size_t saved_length);
+
+/*
  * One window of 5.12 s. current is the window's average in units, positive charging; voltage in mV; temperature in quarter
  * kelvins. A current of at most DMF units either way counts as 0. Success leaves the gauge after the window in saved.
  * Refuses, in this order: 14, 3, 4, 5.
@@ -156,6 +165,18 @@ uint32_t gauge_write(uint8_t *saved, size_t saved_length, uint32_t address, uint
  */
 uint32_t gauge_read(const uint8_t *saved, size_t saved_length, uint32_t address, uint32_t count, uint8_t *reply,
                     size_t reply_length, uint32_t place);
+
+/* The bytes of a gauge saved in a form, which gauge_convert asks of old_length; 0 for a number that is no form of this version. */
+static inline size_t gauge_form_length(uint8_t form)
+{
+    switch (form) {
+    case 1:
+    case 2:
+        return 41;
+    default:
+        return 0;
+    }
+}
 
 /* The number in a pair of registers, whose low byte is at low. */
 static inline unsigned gauge_pair(const uint8_t *low)

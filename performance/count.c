@@ -1,11 +1,13 @@
 /* Makes one kind of call a given number of times, for run, which takes the instructions of two such runs apart. */
 #include "bench_pack.h"
 #include "gauge.h"
+#include "older_forms.h"
 
 #include <stdlib.h>
 #include <string.h>
 
 static uint8_t saved[GAUGE_SAVED_LENGTH];
+static uint8_t converted[GAUGE_SAVED_LENGTH];
 static uint8_t reply[GAUGE_REGISTERS];
 
 /* A gauge on its way from full, so that a window takes the discharge path and TTE, CAC and FCAC are divided out. */
@@ -30,6 +32,10 @@ int main(int arguments, char **argument)
 
     if (strcmp(kind, "open") == 0)
         REPEAT(gauge_open(bench_pack, sizeof bench_pack, saved, sizeof saved));
+    else if (strcmp(kind, "convert-1") == 0)
+        REPEAT(gauge_convert(kept_form_1, sizeof kept_form_1, converted, sizeof converted));
+    else if (strcmp(kind, "convert-2") == 0)
+        REPEAT(gauge_convert(saved, sizeof saved, converted, sizeof converted));
     else if (strcmp(kind, "window") == 0)
         REPEAT(gauge_window(saved, sizeof saved, -3000, 3600, 1192));
     else if (strcmp(kind, "read-2") == 0)

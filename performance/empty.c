@@ -1,10 +1,16 @@
-/* The five calls with nothing in them: what a run with these takes is the caller's loop and arguments, and the two instructions of
+/* The six calls with nothing in them: what a run with these takes is the caller's loop and arguments, and the two instructions of
  * each function here. */
 #include "gauge.h"
 
 uint32_t gauge_open(const uint8_t *configuration, size_t configuration_length, uint8_t *saved, size_t saved_length)
 {
     (void)configuration, (void)configuration_length, (void)saved, (void)saved_length;
+    return GAUGE_OK;
+}
+
+uint32_t gauge_convert(const uint8_t *old, size_t old_length, uint8_t *saved, size_t saved_length)
+{
+    (void)old, (void)old_length, (void)saved, (void)saved_length;
     return GAUGE_OK;
 }
 

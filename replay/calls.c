@@ -16,17 +16,6 @@ static const struct command commands[CALL_KINDS] = {
     [CALL_PARTIAL] = {GAUGE_MODE_PRST, GAUGE_KEY_PRST, false},
 };
 
-/* Whether the bytes are a gauge is for a read to say: it alone changes none of them. */
-static uint32_t load(uint8_t *saved, const uint8_t *bytes, size_t length)
-{
-    uint8_t control;
-    uint32_t number = gauge_read(bytes, length, GAUGE_REG_CTRL, 1, &control, 1, 0);
-
-    if (number == GAUGE_OK)
-        memcpy(saved, bytes, GAUGE_SAVED_LENGTH);
-    return number;
-}
-
 static uint32_t write_value(uint8_t *saved, unsigned value)
 {
     uint32_t number = gauge_write(saved, GAUGE_SAVED_LENGTH, GAUGE_REG_AR, (uint8_t)(value % 256));
@@ -74,7 +63,7 @@ static uint32_t make(const struct call *call, uint8_t *saved, uint8_t *reply)
     case CALL_OPEN:
         return gauge_open(call->bytes, call->length, saved, GAUGE_SAVED_LENGTH);
     case CALL_LOAD:
-        return load(saved, call->bytes, call->length);
+        return gauge_convert(call->bytes, call->length, saved, GAUGE_SAVED_LENGTH);
     case CALL_WINDOW:
         return gauge_window(saved, GAUGE_SAVED_LENGTH, (int32_t)numbers[0], (int32_t)numbers[1], (int32_t)numbers[2]);
     case CALL_REST:

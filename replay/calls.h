@@ -6,7 +6,7 @@
 
 /* A run as it stands after a call. Starts as zeros: no gauge, no time. */
 struct run {
-    uint8_t saved[GAUGE_SAVED_LENGTH];
+    uint8_t saved[GAUGE_SAVED_LENGTH]; /* in the newest form, whatever form was loaded */
     uint64_t windows; /* the time passed */
 };
 

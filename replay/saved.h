@@ -1,4 +1,4 @@
-/* The saved bytes as a list of one load line. */
+/* The saved bytes, which are of the newest form, as a list of one load line. */
 #ifndef REPLAY_SAVED_H
 #define REPLAY_SAVED_H
 

@@ -28,6 +28,18 @@ impl Both {
         Ok(number)
     }
 
+    /// Converts old bytes into the saved ones on both sides. The old bytes are only read.
+    pub fn convert(&mut self, old: &[u8]) -> Result<u32, Difference> {
+        let before = self.reference.clone();
+        let lent = Lent::new(old);
+        let number = shipped::convert(&lent, &mut self.shipped);
+        same("number of converting", number, calls::convert(old, &mut self.reference))?;
+        same_bytes("old bytes after converting", lent.bytes(), old)?;
+        same("bytes beside the old ones kept", lent.guards_kept(), true)?;
+        self.same_saved(number, &before)?;
+        Ok(number)
+    }
+
     /// Makes a call on both sides: the number, if they agree.
     pub fn call(&mut self, call: &Call) -> Result<u32, Difference> {
         let mut before = [0; 64];

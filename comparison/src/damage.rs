@@ -1,174 +1,129 @@
-//! Damaged saves: every condition of acceptance broken alone, bits and bytes changed, other lengths; and openings.
+//! Saves that are damaged or of an older form: every condition of acceptance broken alone, bits and bytes changed, other lengths,
+//! whole ones of an older form; and openings.
 
 use crate::both::Both;
-use crate::counts::{Counts, Event, Kind, Part};
+use crate::broken::broken;
+use crate::counts::Counts;
 use crate::difference::{hexadecimal, Difference};
-use crate::fields::{self, Fields, CHGS, VDQ};
+use crate::fields::{self, Fields};
 use crate::gauges;
+use crate::older;
 use crate::random::Random;
+use crate::table::{Event, Kind, Part};
 use crate::trial::{Start, Trial};
 use crate::values;
-use reference::leak::GREATEST_DRAIN;
-use reference::saved;
+use reference::configuration::Configuration;
+use reference::history::Call;
+use reference::{forms, saved};
 
-/// A damaged save, made of one that a list left or of any valid one, and on it each of the four calls.
-pub fn trials(random: &mut Random, from_lists: &[Vec<u8>], counts: &mut Counts) -> Vec<Trial> {
-    let mut fields = match from_lists {
+/// What was done to a save, its bytes, and whether loading reads them, where that is known.
+struct Save {
+    event: Event,
+    bytes: Vec<u8>,
+    readable: Option<bool>,
+}
+
+/// A save, made of one that a list left or of any valid one, and on it each of the four calls; and its conversion.
+pub fn trials(random: &mut Random, from_lists: &[Vec<u8>], counts: &mut Counts) -> (Part, Vec<Trial>) {
+    let newest = match from_lists {
         [_, ..] if random.one_in(2) => Fields::of(&from_lists[random.below(from_lists.len() as u64) as usize]),
         _ => fields::valid(random),
     };
-    let configuration = fields.meaning();
-    let (event, bytes, accepted) = damaged(random, &mut fields);
-    counts.add(Part::Damaged, event);
-    let refused = saved::load(&bytes).is_err();
-    counts.add_if(Part::Damaged, Event::DamagedRefused, refused);
-    counts.add_if(Part::Damaged, Event::DamagedAccepted, !refused);
-    let mut calls = Vec::new();
-    // Each of the four kinds of call once, whatever else was drawn before it.
+    let configuration = newest.meaning();
+    let (part, save) = if random.one_in(2) {
+        (Part::Older, of_older_form(random, older::form_1(&newest)))
+    } else {
+        (Part::Damaged, damaged(random, newest))
+    };
+    count(counts, part, &save);
+    let mut trials = four_calls(random, &configuration, &save);
+    trials.push(conversion(random, &configuration, save));
+    (part, trials)
+}
+
+fn count(counts: &mut Counts, part: Part, save: &Save) {
+    counts.add(part, save.event);
+    if save.event != Event::OlderWhole {
+        let refused = forms::load(&save.bytes).is_err();
+        counts.add(part, if refused { Event::DamagedRefused } else { Event::DamagedAccepted });
+    }
+}
+
+/// Each of the four kinds of call once, whatever else was drawn before it. They take the newest form alone.
+fn four_calls(random: &mut Random, configuration: &Configuration, save: &Save) -> Vec<Trial> {
+    let mut calls: Vec<Call> = Vec::new();
     while calls.len() < 4 {
-        let call = gauges::any_call(random, &configuration);
+        let call = gauges::any_call(random, configuration);
         if calls.iter().all(|other| std::mem::discriminant(other) != std::mem::discriminant(&call)) {
             calls.push(call);
         }
     }
-    let start = Start::Saved { bytes, accepted };
-    calls.into_iter().map(|call| Trial { start: start.clone(), calls: vec![call] }).collect()
+    let accepted = if save.bytes.first() == Some(&saved::FORM) { save.readable } else { Some(false) };
+    let start = Start::Saved { bytes: save.bytes.clone(), accepted };
+    calls.into_iter().map(|call| Trial { start: start.clone(), steps: vec![call.into()] }).collect()
 }
 
-/// The damage, the bytes, and whether they must be refused.
-fn damaged(random: &mut Random, fields: &mut Fields) -> (Event, Vec<u8>, Option<bool>) {
+/// The save converted into bytes that hold anything, and then a call on what is there.
+fn conversion(random: &mut Random, configuration: &Configuration, save: Save) -> Trial {
+    let lent = match random.below(4) {
+        0 => fields::valid(random).bytes(),
+        1 => bytes(random, 65),
+        _ => vec![0xEE; saved::LENGTH],
+    };
+    let start = Start::Converted { old: save.bytes, lent, readable: save.readable };
+    Trial { start, steps: vec![gauges::any_call(random, configuration).into()] }
+}
+
+/// Bytes at random, fewer than the limit.
+fn bytes(random: &mut Random, limit: u64) -> Vec<u8> {
+    (0..random.below(limit)).map(|_| random.byte()).collect()
+}
+
+/// A save of an older form, whole or damaged.
+fn of_older_form(random: &mut Random, fields: Fields) -> Save {
+    if random.one_in(6) {
+        Save { event: Event::OlderWhole, bytes: fields.bytes(), readable: Some(true) }
+    } else {
+        damaged(random, fields)
+    }
+}
+
+fn damaged(random: &mut Random, mut fields: Fields) -> Save {
     let mut bytes = fields.bytes();
-    match random.below(8) {
+    let at = random.below(bytes.len() as u64) as usize;
+    let (event, readable) = match random.below(9) {
         0 => {
-            let at = random.below(41) as usize;
             bytes[at] ^= 1 << random.below(8);
-            (Event::BitFlipped, bytes, None)
+            (Event::BitFlipped, None)
         }
         1 => {
-            let at = random.below(41) as usize;
             bytes[at] = random.byte();
-            (Event::ByteReplaced, bytes, None)
+            (Event::ByteReplaced, None)
         }
         2 => {
-            let form = bytes[0];
-            bytes.iter_mut().for_each(|byte| *byte = random.byte());
-            if random.one_in(2) {
-                bytes[0] = form;
-            }
-            (Event::RandomBytes, bytes, None)
+            // With the form as it was in every second one.
+            let from = random.below(2) as usize;
+            bytes[from..].iter_mut().for_each(|byte| *byte = random.byte());
+            (Event::RandomBytes, None)
         }
         3 => {
             // 0 to 64 but for 41.
             let length = (random.range(42, 105) % 65) as usize;
             bytes.resize(length, random.pick(&[0, 1, 0xFF]));
-            (Event::WrongLength, bytes, Some(false))
+            (Event::WrongLength, Some(false))
+        }
+        4 => {
+            let others: Vec<u8> = older::FORMS.into_iter().filter(|&form| form != fields.form).collect();
+            bytes[0] = random.pick(&others);
+            (Event::FormExchanged, None)
         }
         _ => {
-            let event = broken(random, fields);
-            (event, fields.bytes(), Some(false))
+            let event = broken(random, &mut fields);
+            bytes = fields.bytes();
+            (event, Some(false))
         }
-    }
-}
-
-/// Breaks one condition of acceptance and keeps the others.
-fn broken(random: &mut Random, fields: &mut Fields) -> Event {
-    match random.below(8) {
-        0 => {
-            fields.form = random.pick(&[0, 2, 3, 129, 255]);
-            Event::BrokenForm
-        }
-        1 => {
-            fields.configuration[0] = 0;
-            Event::BrokenIlmd
-        }
-        2 => {
-            fields.lmd = 0;
-            fields.h = 0;
-            Event::BrokenLmd
-        }
-        3 => broken_charge(random, fields),
-        4 => broken_drain(random, fields),
-        5 => broken_current(random, fields),
-        6 => broken_measure(random, fields),
-        _ => broken_flags(random, fields),
-    }
-}
-
-fn broken_charge(random: &mut Random, fields: &mut Fields) -> Event {
-    if random.one_in(2) {
-        fields.h = random.pick(&[1 << 63, u64::MAX, (1 << 63) | fields.h]);
-        return Event::BrokenChargeSign;
-    }
-    fields.h = fields.full_charge() as u64 + 1 + random.amount(1 << 62) as u64;
-    Event::BrokenCharge
-}
-
-fn broken_drain(random: &mut Random, fields: &mut Fields) -> Event {
-    match random.below(3) {
-        0 => {
-            fields.flags |= VDQ;
-            fields.dcr = GREATEST_DRAIN as u64 + 1 + random.amount(1 << 62) as u64;
-            Event::BrokenDrain
-        }
-        1 => {
-            fields.flags |= VDQ;
-            fields.dcr = random.pick(&[1 << 63, u64::MAX, (1 << 63) | fields.dcr]);
-            Event::BrokenDrainSign
-        }
-        _ => {
-            fields.flags &= !VDQ;
-            fields.dcr = 1 + random.amount(GREATEST_DRAIN - 1) as u64;
-            Event::BrokenRun
-        }
-    }
-}
-
-fn broken_current(random: &mut Random, fields: &mut Fields) -> Event {
-    let dmf = i64::from(fields.meaning().dmf());
-    let within = dmf > 0 && random.one_in(2);
-    let amount = if within {
-        if random.one_in(2) {
-            dmf
-        } else {
-            random.range(1, dmf)
-        }
-    } else {
-        28_012 + random.amount(32_767 - 28_012)
     };
-    fields.c = if random.one_in(2) { amount as i16 } else { -amount as i16 };
-    fields.flags = fields.flags & !CHGS | if fields.c > 0 { CHGS } else { 0 };
-    if within {
-        Event::BrokenDmf
-    } else {
-        Event::BrokenCurrent
-    }
-}
-
-fn broken_measure(random: &mut Random, fields: &mut Fields) -> Event {
-    match random.below(3) {
-        0 => {
-            let greatest = fields.meaning().standby_limit() as i64;
-            fields.si = (greatest + 1 + random.amount(65_534 - greatest)) as u16;
-            Event::BrokenSi
-        }
-        1 => {
-            fields.volt = random.pick(&[1, 2_599, 4_501, 65_535, 2_600 | 0x8000]);
-            Event::BrokenVolt
-        }
-        _ => {
-            fields.temp = random.pick(&[1, 1_011, 1_373, 65_535, 1_192 | 0x8000]);
-            Event::BrokenTemp
-        }
-    }
-}
-
-fn broken_flags(random: &mut Random, fields: &mut Fields) -> Event {
-    if random.one_in(2) {
-        fields.flags ^= CHGS;
-        return Event::BrokenChgs;
-    }
-    fields.flags |= random.pick(&[0x40, 0x20, 0x08, 0x68]);
-    Event::BrokenFlags
+    Save { event, bytes, readable }
 }
 
 /// An opening with configuration and saved bytes of any length. What it was called with, if there is a difference.

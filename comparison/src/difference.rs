@@ -1,6 +1,5 @@
 //! A difference between the two sides, as it is printed.
 
-use reference::history::Call;
 use std::fmt::Debug;
 
 pub struct Difference {
@@ -29,17 +28,4 @@ pub fn same_bytes(what: &str, shipped: &[u8], other: &[u8]) -> Result<(), Differ
 pub fn hexadecimal(bytes: &[u8]) -> String {
     let words: Vec<String> = bytes.iter().map(|byte| format!("{byte:02X}")).collect();
     words.join(" ")
-}
-
-pub fn call_text(call: &Call) -> String {
-    match *call {
-        Call::Window { current, voltage, temperature } => {
-            format!("window  current {current}  voltage {voltage}  temperature {temperature}")
-        }
-        Call::Rest { windows, temperature } => format!("rest    windows {windows}  temperature {temperature}"),
-        Call::Write { address, value } => format!("write   address {address:#04X}  value {value:#04X}"),
-        Call::Read { address, count, reply_length, place } => {
-            format!("read    address {address:#04X}  count {count}  reply {reply_length} bytes  place {place}")
-        }
-    }
 }

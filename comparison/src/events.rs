@@ -1,13 +1,15 @@
 //! Which events a call is. This only counts: no comparison rests on it.
 
-use crate::counts::{Counts, Event, Kind, Part};
+use crate::counts::Counts;
+use crate::fields;
+use crate::standby;
+use crate::table::{Event, Kind, Part};
 use reference::command::{self, Command};
 use reference::configuration::Configuration;
 use reference::history::{Call, History};
 use reference::leak::{leak, w, GRAINS_PER_COUNT, GRAINS_PER_UNIT, GREATEST_DRAIN};
-use reference::saved;
 
-/// How a gauge stands before or after a call, taken from the history or, for a gauge handed in, from its bytes.
+/// How a gauge stands before or after a call: what the history has, and from the bytes what it does not have.
 #[derive(Clone, Copy)]
 pub struct Standing {
     pub configuration: Configuration,
@@ -16,10 +18,12 @@ pub struct Standing {
     pub run: Option<i64>,
     pub mode: u8,
     pub ar: i32,
+    pub si_sixteenths: i32,
 }
 
 impl Standing {
-    pub fn of_history(history: &History) -> Standing {
+    /// The bytes are those of the gauge whose history it is.
+    pub fn of(history: &History, bytes: &[u8]) -> Standing {
         Standing {
             configuration: history.configuration,
             h: history.h(),
@@ -27,20 +31,8 @@ impl Standing {
             run: history.run,
             mode: history.mode,
             ar: history.ar,
+            si_sixteenths: i32::from(fields::si(bytes)),
         }
-    }
-
-    /// None where the bytes hold no gauge.
-    pub fn of_saved(bytes: &[u8]) -> Option<Standing> {
-        let gauge = saved::load(bytes).ok()?;
-        Some(Standing {
-            configuration: gauge.configuration,
-            h: gauge.h,
-            lmd: gauge.lmd,
-            run: gauge.vdq().then_some(gauge.dcr),
-            mode: gauge.mode,
-            ar: gauge.ar,
-        })
     }
 }
 
@@ -56,7 +48,10 @@ pub fn kind(call: &Call) -> Kind {
 /// Counts the events of a call that was not refused.
 pub fn count(counts: &mut Counts, part: Part, before: &Standing, after: &Standing, call: &Call) {
     match *call {
-        Call::Window { current, voltage, temperature } => window(counts, part, before, current, voltage, temperature),
+        Call::Window { current, voltage, temperature } => {
+            window(counts, part, before, current, voltage, temperature);
+            standby::count(counts, part, before, after, before.configuration.counted(current));
+        }
         Call::Rest { windows, .. } => {
             counts.add_if(part, Event::RestOfOne, windows == 1);
             counts.add_if(part, Event::RestOfADay, windows == 16_875);
@@ -93,7 +88,6 @@ fn window(counts: &mut Counts, part: Part, before: &Standing, a: i32, v: i32, t:
         counts.add_if(part, Event::EmptyStopAtTheGrain, h == 0 && before.h > 0);
         let run = drained.filter(|_| !passes);
         counts.add_if(part, Event::EmptyStopWithRun, h <= 0 && run.is_some() && v > before.configuration.e1());
-        counts.add_if(part, Event::Standby, -c <= before.configuration.standby_limit());
         discharging(counts, part, before, Discharge { c, v, t, h, run });
     }
 }
@@ -183,4 +177,6 @@ fn carried_out(counts: &mut Counts, part: Part, before: &Standing, picked: Comma
     counts.add_if(part, Event::WrtnacAboveLmd, picked == Command::Wrtnac && before.ar > before.lmd);
     let cuts = picked == Command::Wrtlmd && before.h > i64::from(before.ar) * GRAINS_PER_COUNT;
     counts.add_if(part, Event::WrtlmdCuts, cuts);
+    let resets = matches!(picked, Command::Prst | Command::Frst);
+    counts.add_if(part, Event::ResetOfStandby, resets && before.si_sixteenths != 16 * before.configuration.s0());
 }

@@ -5,11 +5,12 @@ use crate::values;
 use reference::configuration::Configuration;
 use reference::leak::{GRAINS_PER_COUNT, GREATEST_DRAIN};
 use reference::refusal::CURRENT_MAX;
+use reference::saved;
 
 pub const CHGS: u8 = 0x80;
 pub const VDQ: u8 = 0x04;
 
-/// The saved gauge field by field, without any condition.
+/// The saved gauge field by field, without any condition. SI is the stored number, whose unit is the form's own.
 #[derive(Clone)]
 pub struct Fields {
     pub form: u8,
@@ -27,7 +28,7 @@ pub struct Fields {
 }
 
 impl Fields {
-    /// The 41 bytes in the order of paper 01, "Saved gauge", low byte first.
+    /// The 41 bytes in the order of paper 01, "Saved gauge", low byte first. Forms 1 and 2 differ in what SI means alone.
     pub fn bytes(&self) -> Vec<u8> {
         let mut bytes = vec![self.form];
         bytes.extend(self.configuration);
@@ -43,7 +44,7 @@ impl Fields {
         bytes
     }
 
-    /// The fields of 41 bytes.
+    /// The fields of 41 bytes, or of more that begin with them.
     pub fn of(bytes: &[u8]) -> Fields {
         let pair = |at: usize| u16::from_le_bytes([bytes[at], bytes[at + 1]]);
         let eight = |at: usize| u64::from_le_bytes(bytes[at..at + 8].try_into().expect("eight bytes"));
@@ -53,7 +54,7 @@ impl Fields {
             h: eight(11),
             dcr: eight(19),
             lmd: pair(27),
-            si: pair(29),
+            si: si(bytes),
             c: pair(31) as i16,
             volt: pair(33),
             temp: pair(35),
@@ -65,6 +66,16 @@ impl Fields {
 
     pub fn meaning(&self) -> Configuration {
         Configuration { bytes: self.configuration }
+    }
+
+    /// The greatest SI that the form accepts: 2 × S0 in form 1, 32 × S0 in sixteenths (paper 02, A1).
+    pub fn greatest_si(&self) -> u16 {
+        let units = self.meaning().standby_limit() as u16;
+        if self.form == 1 {
+            units
+        } else {
+            16 * units
+        }
     }
 
     pub fn full_charge(&self) -> i64 {
@@ -87,7 +98,12 @@ impl Fields {
     }
 }
 
-/// Fields that are accepted.
+/// SI as it is stored.
+pub fn si(bytes: &[u8]) -> u16 {
+    u16::from_le_bytes([bytes[29], bytes[30]])
+}
+
+/// Fields that are accepted, of the newest form.
 pub fn valid(random: &mut Random) -> Fields {
     let configuration = values::configuration(random);
     let meaning = Configuration { bytes: configuration };
@@ -99,12 +115,12 @@ pub fn valid(random: &mut Random) -> Fields {
     let c = counted(random, &meaning);
     let flags = random.byte() & 0x17 | if c > 0 { CHGS } else { 0 };
     let mut fields = Fields {
-        form: 1,
+        form: saved::FORM,
         configuration,
         h: 0,
         dcr: 0,
         lmd,
-        si: standby(random, &meaning),
+        si: 0,
         c: c as i16,
         volt: if random.one_in(5) { 0 } else { values::voltage(random, &meaning) as u16 },
         temp: if random.one_in(5) { 0 } else { values::temperature(random, &meaning) as u16 },
@@ -112,6 +128,7 @@ pub fn valid(random: &mut Random) -> Fields {
         mode: random.byte(),
         flags,
     };
+    fields.si = standby(random, fields.greatest_si());
     charge(random, &mut fields);
     if fields.has_run() {
         drain(random, &mut fields);
@@ -130,12 +147,14 @@ fn counted(random: &mut Random, configuration: &Configuration) -> i32 {
     random.pick(&[0, amount, -amount, -amount])
 }
 
-fn standby(random: &mut Random, configuration: &Configuration) -> u16 {
-    let greatest = configuration.standby_limit();
-    match random.below(4) {
+/// SI up to the greatest, now and then in whole units.
+fn standby(random: &mut Random, greatest: u16) -> u16 {
+    let any = random.range(0, i64::from(greatest)) as u16;
+    match random.below(8) {
         0 => 0,
-        1 => greatest as u16,
-        _ => random.range(0, i64::from(greatest)) as u16,
+        1 | 2 => greatest,
+        3 => any / 16 * 16,
+        _ => any,
     }
 }
 

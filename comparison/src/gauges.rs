@@ -2,6 +2,8 @@
 
 use crate::fields::{self, Fields};
 use crate::host;
+use crate::lists;
+use crate::older;
 use crate::random::Random;
 use crate::trial::{Start, Trial};
 use crate::values;
@@ -13,23 +15,39 @@ use reference::refusal::VOLTAGE_MIN;
 /// Grains that teach one count: 15 × G / 16.
 const GRAINS_TAUGHT: i64 = 15 * GRAINS_PER_COUNT / 16;
 
+/// One trial in so many is a whole list, which goes on from a gauge in an older form.
+const LIST_EVERY: u64 = 400;
+
 pub fn trial(random: &mut Random) -> Trial {
-    let mut fields = fields::valid(random);
-    let mut calls = vec![first_call(random, &mut fields)];
-    for _ in 0..random.below(4) {
-        calls.push(any_call(random, &fields.meaning()));
+    if random.one_in(LIST_EVERY) {
+        return lists::updated(Random::new(random.next()));
     }
-    Trial { start: Start::Saved { bytes: fields.bytes(), accepted: Some(true) }, calls }
+    let mut fields = fields::valid(random);
+    let mut steps = vec![first_call(random, &mut fields).into()];
+    for _ in 0..random.below(4) {
+        steps.push(any_call(random, &fields.meaning()).into());
+    }
+    Trial { start: start(random, &fields), steps }
+}
+
+/// The gauge as saved bytes, or converted, from an older form or from the newest.
+fn start(random: &mut Random, fields: &Fields) -> Start {
+    match random.below(6) {
+        0 => Start::converted(fields.bytes()),
+        1 | 2 => Start::converted(older::form_1(fields).bytes()),
+        _ => Start::Saved { bytes: fields.bytes(), accepted: Some(true) },
+    }
 }
 
 fn first_call(random: &mut Random, fields: &mut Fields) -> Call {
-    match random.below(8) {
+    match random.below(9) {
         0 => full(random, fields),
         1 => empty(random, fields),
         2 => passes(random, fields),
         3 => learns(random, fields),
         4 => passes_in_rest(random, fields),
         5 => command(random, fields),
+        6 => settles(random, fields),
         _ => any_call(random, &fields.meaning()),
     }
 }
@@ -133,6 +151,17 @@ fn passes_in_rest(random: &mut Random, fields: &mut Fields) -> Call {
     let drain = windows * leaked(fields, temperature);
     fields.set_run(GREATEST_DRAIN - drain + random.range(-1, 1));
     Call::Rest { windows: windows as u32 + random.below(2) as u32, temperature }
+}
+
+/// A light load at which the standby current has settled, or is one sixteenth beside that.
+fn settles(random: &mut Random, fields: &mut Fields) -> Call {
+    let configuration = fields.meaning();
+    let limit = i64::from(configuration.standby_limit());
+    let load = if random.one_in(3) { limit } else { random.range(1, limit) };
+    let si = 16 * load + random.pick(&[-16, -15, -14, -1, 0, 1]);
+    fields.si = si.clamp(0, i64::from(fields.greatest_si())) as u16;
+    let voltage = values::voltage(random, &configuration);
+    Call::Window { current: -load as i32, voltage, temperature: values::temperature(random, &configuration) }
 }
 
 /// A key at CTRL with an AR near LMD or NAC.

@@ -1,4 +1,4 @@
-//! Lists of calls from opening, put together from scenes.
+//! Lists of calls, put together from scenes.
 
 use crate::host;
 use crate::random::Random;
@@ -9,8 +9,23 @@ use crate::writer::Writer;
 /// One list in so many has a long run, which alone is some 1,650 windows.
 const LONG_RUN_EVERY: u64 = 100;
 
+/// One scene in so many is a steady light load, which is some dozens of windows.
+const STANDBY_EVERY: u64 = 80;
+
+/// One scene in so many is an update of the firmware.
+const UPDATE_EVERY: u64 = 40;
+
+/// A list from opening.
 pub fn list(random: Random) -> Trial {
-    let mut writer = Writer::new(random);
+    written(Writer::new(random))
+}
+
+/// A list of a handset that was updated mid-drive: it goes on from a gauge in an older form.
+pub fn updated(random: Random) -> Trial {
+    written(Writer::updated(random))
+}
+
+fn written(mut writer: Writer) -> Trial {
     if writer.random.one_in(LONG_RUN_EVERY) {
         if writer.random.one_in(4) {
             scenes::exact_run(&mut writer);
@@ -26,6 +41,12 @@ pub fn list(random: Random) -> Trial {
 }
 
 fn scene(writer: &mut Writer) {
+    if writer.random.one_in(STANDBY_EVERY) {
+        return scenes::standby(writer);
+    }
+    if writer.random.one_in(UPDATE_EVERY) {
+        return writer.update();
+    }
     match writer.random.below(20) {
         0..=2 => (0..writer.random.amount(12)).for_each(|_| scenes::any_window(writer)),
         3 | 4 => scenes::charge_up(writer),

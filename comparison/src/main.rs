@@ -2,7 +2,10 @@
 //!
 //! Ends with status 0 only if there was no difference and every event of the table occurred.
 
+mod begun;
 mod both;
+mod broken;
+mod conversions;
 mod counts;
 mod damage;
 mod difference;
@@ -11,23 +14,30 @@ mod fields;
 mod gauges;
 mod host;
 mod lists;
+mod older;
 mod options;
 mod program;
 mod random;
 mod report;
+mod running;
 mod scenes;
 mod shipped;
 mod shrink;
+mod simplest;
+mod standby;
+mod step;
+mod table;
 mod texts;
 mod trial;
 mod values;
 mod writer;
 
-use counts::{Counts, Part};
+use counts::Counts;
 use options::{Options, USAGE};
 use random::Random;
 use std::path::Path;
 use std::process::ExitCode;
+use table::Part;
 
 /// Of the calls, those in lists from opening; the others are made on gauges handed in.
 const PERCENT_IN_LISTS: u64 = 70;
@@ -78,7 +88,7 @@ fn compare_lists(seed: u64, wanted: u64, counts: &mut Counts) -> Result<(u64, Ve
             break;
         }
         let list = lists::list(Random::part(seed, index));
-        calls += list.calls.len() as u64;
+        calls += list.steps.len() as u64;
         let saved = report::run(&list, Part::Lists, counts, &format!("list {index} of seed {seed}"))?;
         if left.len() < KEPT_SAVES {
             left.push(saved);
@@ -94,18 +104,20 @@ fn compare_gauges(seed: u64, wanted: u64, counts: &mut Counts) -> Result<u64, ()
     let mut calls = 0;
     while calls < wanted {
         let trial = gauges::trial(&mut random);
-        calls += trial.calls.len() as u64;
+        calls += trial.steps.len() as u64;
         report::run(&trial, Part::Gauges, counts, &format!("a gauge handed in, seed {seed}"))?;
     }
     Ok(calls)
 }
 
-/// Each damaged save gets all four calls; beside it an opening over bytes of any kind.
+/// Each damaged save gets all four calls and is converted; beside it an opening over bytes of any kind. Half of the saves are of an
+/// older form, now and then whole.
 fn compare_damaged(seed: u64, wanted: u64, left: &[Vec<u8>], counts: &mut Counts) -> Result<(), ()> {
     let mut random = Random::part(seed, 1 << 63);
     for _ in 0..wanted {
-        for trial in damage::trials(&mut random, left, counts) {
-            report::run(&trial, Part::Damaged, counts, &format!("a damaged save, seed {seed}"))?;
+        let (part, trials) = damage::trials(&mut random, left, counts);
+        for trial in trials {
+            report::run(&trial, part, counts, &format!("a damaged save, seed {seed}"))?;
         }
         if let Err((called, difference)) = damage::opening(&mut random, counts) {
             return report::difference("an opening", &called, &difference);

@@ -1,9 +1,10 @@
 //! Runs a trial and, where the two sides differ, prints the shortest trial found that still does.
 
-use crate::counts::{Counts, Part};
+use crate::counts::Counts;
 use crate::difference::Difference;
 use crate::program;
 use crate::shrink::shrink;
+use crate::table::Part;
 use crate::trial::Trial;
 use std::path::Path;
 
@@ -12,7 +13,7 @@ pub fn run(trial: &Trial, part: Part, counts: &mut Counts, name: &str) -> Result
         Ok(saved) => return Ok(saved),
         Err(found) => found,
     };
-    println!("comparison: DIFFERENCE in {name}, after {} calls", found.calls);
+    println!("comparison: DIFFERENCE in {name}, after {} calls", found.steps);
     let shortest = shrink(trial);
     match shortest.run(part, &mut Counts::new()) {
         Err(failure) => difference("the shortest found", &shortest.text(), &failure.difference),

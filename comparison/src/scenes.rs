@@ -5,6 +5,9 @@ use crate::writer::Writer;
 use reference::history::Call;
 use reference::refusal::CURRENT_MAX;
 
+/// One window of a run in so many has an update of the firmware before it.
+const UPDATE_EVERY: u64 = 100;
+
 /// Any window in range.
 pub fn any_window(writer: &mut Writer) {
     let current = values::current(&mut writer.random, &writer.configuration);
@@ -68,6 +71,9 @@ pub fn run(writer: &mut Writer) {
         if writer.random.one_in(10) {
             rest(writer);
             continue;
+        }
+        if writer.random.one_in(UPDATE_EVERY) {
+            writer.update();
         }
         let current = values::current(&mut writer.random, &writer.configuration);
         let discharge = if writer.random.one_in(20) { current } else { -current.abs() };
@@ -140,6 +146,26 @@ pub fn exact_run(writer: &mut Writer) {
     let voltage = if writer.random.one_in(2) { writer.voltage_at_e1() } else { writer.voltage_above_e1() };
     writer.window(-last, voltage, temperature);
     end_of_discharge(writer);
+}
+
+/// A steady light load near S0, at which the standby current settles within a few dozen windows, and then perhaps another load, a
+/// reset or an update of the firmware.
+pub fn standby(writer: &mut Writer) {
+    let s0 = i64::from(writer.configuration.s0());
+    for _ in 0..writer.random.range(1, 2) {
+        let load = s0 + writer.random.range(-3, 3);
+        let current = -load.clamp(1, (2 * s0).max(1)) as i32;
+        let voltage = writer.voltage_above_e1();
+        let temperature = writer.temperature();
+        for _ in 0..writer.random.range(1, 45) {
+            writer.window(current, voltage, temperature);
+        }
+    }
+    match writer.random.below(4) {
+        0 => writer.command(None, 0x08, 0xA9),
+        1 => writer.command(None, 0x02, 0xA9),
+        _ => writer.update(),
+    }
 }
 
 /// A rest, mostly short; now and then of a day, whose windows are many.

@@ -1,4 +1,4 @@
-//! The five calls of the shipped library (include/gauge.h).
+//! The six calls of the shipped library (include/gauge.h).
 
 const GUARD: usize = 16;
 const GUARD_BYTE: u8 = 0xC3;
@@ -39,6 +39,12 @@ pub fn open(configuration: &[u8], saved: &mut Lent) -> u32 {
     let saved = saved.bytes_mut();
     // The pointers are valid for the lengths handed in with them, not null, and do not overlap; so below too.
     unsafe { gauge_open(configuration.as_ptr(), configuration.len(), saved.as_mut_ptr(), saved.len()) }
+}
+
+pub fn convert(old: &Lent, saved: &mut Lent) -> u32 {
+    let old = old.bytes();
+    let saved = saved.bytes_mut();
+    unsafe { gauge_convert(old.as_ptr(), old.len(), saved.as_mut_ptr(), saved.len()) }
 }
 
 pub fn window(saved: &mut Lent, current: i32, voltage: i32, temperature: i32) -> u32 {

@@ -1,9 +1,10 @@
 //! Makes a failing trial shorter and its arguments simpler, as long as it still fails.
 
-use crate::counts::{Counts, Part};
-use crate::trial::{Failure, Start, Trial};
-use reference::bench::BENCH_PACK;
-use reference::calls;
+use crate::counts::Counts;
+use crate::simplest;
+use crate::step::Step;
+use crate::table::Part;
+use crate::trial::{Failure, Trial};
 use reference::history::Call;
 
 /// So many calls may be made in the search. A long trial then ends it with what was found until there.
@@ -17,7 +18,7 @@ pub fn shrink(trial: &Trial) -> Trial {
     let mut search = Search { calls_left: CALLS_IN_SEARCH };
     let mut best = trial.clone();
     loop {
-        let mut smaller = search.drop_calls(&best);
+        let mut smaller = search.drop_steps(&best);
         search.simplify_start(&mut smaller);
         search.simplify_together(&mut smaller);
         search.simplify_calls(&mut smaller);
@@ -35,7 +36,7 @@ struct Search {
 impl Search {
     /// The trial's difference, if it has one and the search may still make its calls.
     fn failure(&mut self, trial: &Trial) -> Option<Failure> {
-        self.calls_left = self.calls_left.checked_sub(trial.calls.len() as u64 + 1)?;
+        self.calls_left = self.calls_left.checked_sub(trial.steps.len() as u64 + 1)?;
         trial.run(Part::Lists, &mut Counts::new()).err()
     }
 
@@ -43,16 +44,16 @@ impl Search {
         self.failure(trial).is_some()
     }
 
-    /// Leaves out what follows the difference, then stretches of calls, long ones first.
-    fn drop_calls(&mut self, trial: &Trial) -> Trial {
+    /// Leaves out what follows the difference, then stretches of steps, long ones first.
+    fn drop_steps(&mut self, trial: &Trial) -> Trial {
         let mut best = self.cut(trial);
-        let mut stretch = best.calls.len();
+        let mut stretch = best.steps.len();
         while stretch > 0 {
             let mut at = 0;
-            while at < best.calls.len() {
+            while at < best.steps.len() {
                 let mut candidate = best.clone();
-                let end = (at + stretch).min(candidate.calls.len());
-                candidate.calls.drain(at..end);
+                let end = (at + stretch).min(candidate.steps.len());
+                candidate.steps.drain(at..end);
                 if self.fails(&candidate) {
                     best = self.cut(&candidate);
                 } else {
@@ -68,34 +69,32 @@ impl Search {
     fn cut(&mut self, trial: &Trial) -> Trial {
         let mut cut = trial.clone();
         if let Some(failure) = self.failure(trial) {
-            cut.calls.truncate(failure.calls);
+            cut.steps.truncate(failure.steps);
         }
         cut
     }
 
-    /// Brings the configuration, or the saved bytes, towards those of the opened bench pack, byte by byte.
+    /// Tries simpler ways to start, then brings the bytes of the start towards those of the bench pack, one after the other.
     fn simplify_start(&mut self, trial: &mut Trial) {
-        let mut opened = [0; 41];
-        calls::open(&BENCH_PACK, &mut opened);
-        if let Start::Saved { bytes, .. } = &trial.start {
-            // Changed bytes can be accepted or not, so nothing is claimed of them.
-            let start = Start::Saved { bytes: bytes.clone(), accepted: None };
-            let candidate = Trial { start, calls: trial.calls.clone() };
-            if !self.fails(&candidate) {
-                return;
-            }
-            *trial = candidate;
+        let unclaimed = Trial { start: simplest::unclaimed(&trial.start), steps: trial.steps.clone() };
+        if !self.fails(&unclaimed) {
+            return;
         }
-        for at in 0..opened.len() {
+        *trial = unclaimed;
+        for start in simplest::other_starts(&trial.start) {
+            self.take_if_fails(trial, Trial { start, steps: trial.steps.clone() });
+        }
+        for at in 0..simplest::bytes(&trial.start).len() {
             let mut candidate = trial.clone();
-            match &mut candidate.start {
-                Start::Opened(bytes) if at < bytes.len() => bytes[at] = BENCH_PACK[at],
-                Start::Saved { bytes, .. } if at < bytes.len() => bytes[at] = opened[at],
-                _ => continue,
+            if simplest::simplify(&mut candidate.start, at) {
+                self.take_if_fails(trial, candidate);
             }
-            if self.fails(&candidate) {
-                *trial = candidate;
-            }
+        }
+    }
+
+    fn take_if_fails(&mut self, trial: &mut Trial, candidate: Trial) {
+        if self.fails(&candidate) {
+            *trial = candidate;
         }
     }
 
@@ -103,20 +102,18 @@ impl Search {
     fn simplify_together(&mut self, trial: &mut Trial) {
         for field in 0..ARGUMENTS {
             let mut candidate = trial.clone();
-            let many = candidate.calls.len().saturating_sub(1);
-            for call in &mut candidate.calls[..many] {
-                if let (Call::Window { .. }, Some((_, simplest))) = (*call, argument(call, field, None)) {
-                    argument(call, field, Some(simplest));
+            let many = candidate.steps.len().saturating_sub(1);
+            for step in &mut candidate.steps[..many] {
+                if let (Step::Call(Call::Window { .. }), Some((_, simplest))) = (*step, argument(step, field, None)) {
+                    argument(step, field, Some(simplest));
                 }
             }
-            if self.fails(&candidate) {
-                *trial = candidate;
-            }
+            self.take_if_fails(trial, candidate);
         }
     }
 
     fn simplify_calls(&mut self, trial: &mut Trial) {
-        for index in (0..trial.calls.len()).rev() {
+        for index in (0..trial.steps.len()).rev() {
             for field in 0..ARGUMENTS {
                 self.simplify_argument(trial, index, field);
             }
@@ -125,14 +122,14 @@ impl Search {
 
     /// Tries the simplest value of an argument, then ever smaller steps towards it.
     fn simplify_argument(&mut self, trial: &mut Trial, index: usize, field: usize) {
-        let (mut value, simplest) = match argument(&mut trial.calls[index], field, None) {
+        let (mut value, simplest) = match argument(&mut trial.steps[index], field, None) {
             Some(found) => found,
             None => return,
         };
         let mut step = simplest - value;
         while step != 0 {
             let mut candidate = trial.clone();
-            argument(&mut candidate.calls[index], field, Some(value + step));
+            argument(&mut candidate.steps[index], field, Some(value + step));
             if self.fails(&candidate) {
                 *trial = candidate;
                 value += step;
@@ -144,8 +141,8 @@ impl Search {
     }
 }
 
-/// An argument of a call with its simplest value; sets it first if a value is given.
-fn argument(call: &mut Call, field: usize, set: Option<i64>) -> Option<(i64, i64)> {
+/// An argument of a step's call with its simplest value; sets it first if a value is given.
+fn argument(step: &mut Step, field: usize, set: Option<i64>) -> Option<(i64, i64)> {
     macro_rules! field {
         ($place:expr, $simplest:expr) => {{
             if let Some(value) = set {
@@ -154,6 +151,10 @@ fn argument(call: &mut Call, field: usize, set: Option<i64>) -> Option<(i64, i64
             Some((*$place as i64, $simplest))
         }};
     }
+    let call = match step {
+        Step::Call(call) => call,
+        Step::Update => return None,
+    };
     match (call, field) {
         (Call::Window { current, .. }, 0) => field!(current, 0),
         (Call::Window { voltage, .. }, 1) => field!(voltage, 3_600),

@@ -1,7 +1,8 @@
 //! Texts for the bench program, every kind of line among them.
 
-use crate::counts::{Counts, Event, Part};
+use crate::counts::Counts;
 use crate::random::Random;
+use crate::table::{Event, Part};
 use crate::values;
 use reference::bench::BENCH_PACK;
 use reference::configuration::Configuration;

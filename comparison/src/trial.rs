@@ -1,106 +1,73 @@
-//! A trial: a gauge to start from and calls on it. It is run on both sides and stops at the first difference.
+//! A trial: a gauge to start from and steps on it. It is run on both sides and stops at the first difference.
 
-use crate::both::Both;
-use crate::counts::{Counts, Kind, Part};
-use crate::difference::{call_text, hexadecimal, same, Difference};
-use crate::events::{self, Standing};
-use reference::configuration::Configuration;
-use reference::history::{Call, History};
+use crate::counts::Counts;
+use crate::difference::{hexadecimal, Difference};
+use crate::running::Running;
+use crate::step::Step;
+use crate::table::Part;
+use reference::saved;
 
 #[derive(Clone)]
 pub enum Start {
-    /// A freshly opened gauge: the history is held against it after every call.
+    /// A freshly opened gauge.
     Opened([u8; 10]),
-    /// Bytes handed in. If it is known whether they hold a gauge, both sides have to say so.
+    /// Bytes handed in. If it is known whether the calls accept them, both sides have to say so.
     Saved { bytes: Vec<u8>, accepted: Option<bool> },
+    /// Bytes of any form, converted into lent ones, which may hold anything before. If it is known whether loading reads the old
+    /// ones, both sides have to say so.
+    Converted { old: Vec<u8>, lent: Vec<u8>, readable: Option<bool> },
 }
 
 #[derive(Clone)]
 pub struct Trial {
     pub start: Start,
-    pub calls: Vec<Call>,
+    pub steps: Vec<Step>,
 }
 
-/// A difference, and how many calls it took.
+/// A difference, and how many steps it took.
 pub struct Failure {
-    pub calls: usize,
+    pub steps: usize,
     pub difference: Difference,
 }
 
 impl Trial {
     /// The saved bytes at the end, which both sides agree on.
     pub fn run(&self, part: Part, counts: &mut Counts) -> Result<Vec<u8>, Failure> {
-        let (mut both, mut history) = self.begin(part, counts).map_err(|difference| Failure { calls: 0, difference })?;
-        for (index, call) in self.calls.iter().enumerate() {
-            step(&mut both, history.as_mut(), call, part, counts).map_err(|difference| Failure { calls: index + 1, difference })?;
+        let failed = |steps| move |difference| Failure { steps, difference };
+        let mut running = Running::begin(&self.start, part, counts).map_err(failed(0))?;
+        for (index, step) in self.steps.iter().enumerate() {
+            running.step(step).map_err(failed(index + 1))?;
         }
-        Ok(both.reference)
+        Ok(running.saved())
     }
 
-    fn begin(&self, part: Part, counts: &mut Counts) -> Result<(Both, Option<History>), Difference> {
-        match &self.start {
-            Start::Opened(configuration) => {
-                let mut both = Both::new(&[0xEE; 41]);
-                let number = both.open(configuration)?;
-                counts.add_number(part, Kind::Open, number);
-                same("number of opening", number, 0)?;
-                let history = Configuration::new(configuration).map(History::opened).expect("ILMD above 0");
-                both.same_registers()?;
-                both.same_history(&history)?;
-                Ok((both, Some(history)))
-            }
-            Start::Saved { bytes, accepted } => {
-                let both = Both::new(bytes);
-                both.same_registers()?;
-                if let Some(accepted) = *accepted {
-                    same("saved bytes accepted", Standing::of_saved(bytes).is_some(), accepted)?;
-                }
-                Ok((both, None))
-            }
-        }
-    }
-
-    /// The trial as it is printed: how the gauge came about, then a line for each call, or for several in a row that are alike.
+    /// The trial as it is printed: how the gauge came about, then a line for each step, or for several in a row that are alike.
     pub fn text(&self) -> String {
-        let start = match &self.start {
-            Start::Opened(configuration) => format!("  open    {}\n", hexadecimal(configuration)),
-            Start::Saved { bytes, .. } => format!("  saved   {}\n", hexadecimal(bytes)),
-        };
-        let mut lines = vec![start];
-        let mut rest = &self.calls[..];
-        while let [call, ..] = rest {
-            let alike = rest.iter().take_while(|next| *next == call).count();
+        let mut lines = vec![self.start.text()];
+        let mut rest = &self.steps[..];
+        while let [step, ..] = rest {
+            let alike = rest.iter().take_while(|next| *next == step).count();
             let times = if alike > 1 { format!("  {alike} times") } else { String::new() };
-            lines.push(format!("  {}{times}\n", call_text(call)));
+            lines.push(format!("  {}{times}\n", step.text()));
             rest = &rest[alike..];
         }
         lines.concat()
     }
 }
 
-/// Makes one call on both sides, and on the history if there is one, and compares everything.
-fn step(both: &mut Both, history: Option<&mut History>, call: &Call, part: Part, counts: &mut Counts) -> Result<(), Difference> {
-    let before = standing(both, history.as_deref());
-    let number = both.call(call)?;
-    counts.add_number(part, events::kind(call), number);
-    both.same_registers()?;
-    let mut now = None;
-    if let Some(history) = history {
-        let predicted = history.call(call).err().unwrap_or(0);
-        same("number and the history's number", number, predicted)?;
-        both.same_history(history)?;
-        now = Some(Standing::of_history(history));
+impl Start {
+    /// The conversion of a whole gauge.
+    pub fn converted(old: Vec<u8>) -> Start {
+        Start::Converted { old, lent: vec![0xEE; saved::LENGTH], readable: Some(true) }
     }
-    if let (0, Some(before)) = (number, before) {
-        let after = now.or_else(|| standing(both, None)).unwrap_or(before);
-        events::count(counts, part, &before, &after, call);
-    }
-    Ok(())
-}
 
-fn standing(both: &Both, history: Option<&History>) -> Option<Standing> {
-    match history {
-        Some(history) => Some(Standing::of_history(history)),
-        None => Standing::of_saved(&both.reference),
+    fn text(&self) -> String {
+        match self {
+            Start::Opened(configuration) => format!("  open    {}\n", hexadecimal(configuration)),
+            Start::Saved { bytes, .. } => format!("  saved   {}\n", hexadecimal(bytes)),
+            Start::Converted { old, lent, .. } => {
+                format!("  convert {}\n  into    {}\n", hexadecimal(old), hexadecimal(lent))
+            }
+        }
     }
 }

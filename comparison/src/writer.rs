@@ -1,9 +1,13 @@
 //! Writes a list of calls. It follows the history while writing, so that it can aim at what the rules turn on.
 
+use crate::fields;
+use crate::older;
 use crate::random::Random;
+use crate::step::Step;
 use crate::trial::{Start, Trial};
 use crate::values;
 use reference::configuration::Configuration;
+use reference::forms;
 use reference::history::{Call, History};
 use reference::leak::{leak, w, GRAINS_PER_COUNT, GRAINS_PER_UNIT};
 use reference::refusal::{CURRENT_MAX, VOLTAGE_MAX, VOLTAGE_MIN};
@@ -12,24 +16,40 @@ pub struct Writer {
     pub random: Random,
     pub configuration: Configuration,
     pub history: History,
-    pub calls: Vec<Call>,
+    start: Start,
+    steps: Vec<Step>,
 }
 
 impl Writer {
     pub fn new(mut random: Random) -> Writer {
         let bytes = values::configuration(&mut random);
         let configuration = Configuration::new(&bytes).expect("ILMD above 0");
-        Writer { random, configuration, history: History::opened(configuration), calls: Vec::new() }
+        let start = Start::Opened(bytes);
+        Writer { random, configuration, history: History::opened(configuration), start, steps: Vec::new() }
+    }
+
+    /// A list that goes on from any gauge in an older form, which is converted first. A reference that refuses it is found when the
+    /// trial begins.
+    pub fn updated(mut random: Random) -> Writer {
+        let fields = older::form_1(&fields::valid(&mut random));
+        let (configuration, old) = (fields.meaning(), fields.bytes());
+        let history = forms::load(&old).map_or_else(|_| History::opened(configuration), |gauge| History::begun(&gauge));
+        Writer { random, configuration, history, start: Start::converted(old), steps: Vec::new() }
     }
 
     pub fn trial(self) -> Trial {
-        Trial { start: Start::Opened(self.configuration.bytes), calls: self.calls }
+        Trial { start: self.start, steps: self.steps }
     }
 
     pub fn call(&mut self, call: Call) {
         // A refused call stays in the list like any other.
         let _ = self.history.call(&call);
-        self.calls.push(call);
+        self.steps.push(call.into());
+    }
+
+    /// The handset's firmware is updated. The history goes on as if nothing had been.
+    pub fn update(&mut self) {
+        self.steps.push(Step::Update);
     }
 
     pub fn window(&mut self, current: i32, voltage: i32, temperature: i32) {

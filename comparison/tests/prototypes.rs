@@ -78,6 +78,8 @@ fn a_wrong_header_is_refused() {
 fn the_header_is_read() {
     let calls = read(include_str!("../../include/gauge.h")).unwrap();
     assert_eq!(calls[0], "gauge_open(configuration: *const u8, configuration_length: usize, saved: *mut u8, saved_length: usize)");
+    let convert = "gauge_convert(old: *const u8, old_length: usize, saved: *mut u8, saved_length: usize)";
+    assert!(calls.iter().any(|call| call == convert));
     assert!(calls.iter().any(|call| call.starts_with("gauge_read(")));
-    assert!(!calls.iter().any(|call| call.starts_with("gauge_pair(")));
+    assert!(!calls.iter().any(|call| call.starts_with("gauge_pair(") || call.starts_with("gauge_form_length(")));
 }

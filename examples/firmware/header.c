@@ -1,10 +1,12 @@
 /*
- * Holds the header's limits, lengths, form and configuration addresses to the gauge: what lies on a limit is accepted, and what lies just
+ * Holds the header's limits, lengths, forms and configuration addresses to the gauge: what lies on a limit is accepted, and what lies just
  * beyond is refused with the limit's own number. The addresses of the other registers are held by replay, whose tables name them.
  */
 #include "bench_pack.h"
 #include "gauge.h"
+#include "older_forms.h"
 
+#include <stdbool.h>
 #include <stdio.h>
 #include <string.h>
 
@@ -53,14 +55,50 @@ static uint32_t read(uint32_t count)
     return number != GAUGE_OK ? number : gauge_read(saved, sizeof saved, 0, count, reply, sizeof reply, 0);
 }
 
-static void form(void)
-{
-    uint8_t saved[GAUGE_SAVED_LENGTH] = {0};
+/* By form, up to the newest one, which is what gauge_open makes. */
+static const struct {
+    const uint8_t *bytes;
+    size_t length;
+} older_forms[GAUGE_FORM] = {
+    [1] = {kept_form_1, sizeof kept_form_1},
+};
 
-    if (gauge_open(bench_pack, sizeof bench_pack, saved, sizeof saved) == GAUGE_OK && saved[0] == GAUGE_FORM)
-        return;
-    printf("the first of the saved bytes is %u, not %u\n", (unsigned)saved[0], (unsigned)GAUGE_FORM);
-    failures++;
+static bool is_form(unsigned number)
+{
+    return number >= GAUGE_FORM_OLDEST && number <= GAUGE_FORM;
+}
+
+/* Converts as many bytes as asked for of a gauge in that form. A number that is no form stands on a gauge of the newest one. */
+static uint32_t convert(unsigned form, size_t length)
+{
+    uint8_t old[GAUGE_SAVED_LENGTH + 1] = {0}, saved[GAUGE_SAVED_LENGTH] = {0};
+
+    if (length > sizeof old)
+        return GAUGE_REFUSED_SAVED;
+    if (is_form(form) && form != GAUGE_FORM)
+        memcpy(old, older_forms[form].bytes, older_forms[form].length);
+    else if (gauge_open(bench_pack, sizeof bench_pack, old, GAUGE_SAVED_LENGTH) != GAUGE_OK || old[0] != GAUGE_FORM)
+        return GAUGE_REFUSED_SAVED;
+    old[0] = (uint8_t)form;
+    uint32_t number = gauge_convert(old, length, saved, sizeof saved);
+    return number == GAUGE_OK && saved[0] != GAUGE_FORM ? GAUGE_REFUSED_SAVED : number;
+}
+
+/* Each form has its length and comes out as the newest one. The numbers below the oldest and above the newest are no forms. */
+static void forms(void)
+{
+    for (unsigned number = 0; number <= UINT8_MAX; number++) {
+        size_t length = gauge_form_length((uint8_t)number);
+        if (is_form(number)) {
+            char name[] = "length of form 255";
+            sprintf(name, "length of form %u", number);
+            limit(name, convert(number, length), convert(number, length + 1), GAUGE_REFUSED_SAVED);
+            limit(name, convert(number, length), convert(number, length - 1), GAUGE_REFUSED_SAVED);
+        } else if (length != 0 || convert(number, GAUGE_SAVED_LENGTH) != GAUGE_REFUSED_SAVED) {
+            printf("%u is a form\n", number);
+            failures++;
+        }
+    }
 }
 
 /* Ten bytes that all differ, so that none can stand for another. */
@@ -104,7 +142,7 @@ int main(void)
           open(GAUGE_CONFIGURATION_LENGTH + 1, GAUGE_SAVED_LENGTH), GAUGE_REFUSED_CONFIGURATION_LENGTH);
     limit("saved bytes", open(GAUGE_CONFIGURATION_LENGTH, GAUGE_SAVED_LENGTH),
           open(GAUGE_CONFIGURATION_LENGTH, GAUGE_SAVED_LENGTH + 1), GAUGE_REFUSED_REPLY);
-    form();
+    forms();
     configuration_addresses();
     return failures == 0 ? 0 : 1;
 }

@@ -3,47 +3,11 @@
  * expected.txt holds them, worked out by another implementation.
  */
 #include "bench_pack.h"
-#include "gauge.h"
+#include "firmware.h"
 
 #include <stdio.h>
 #include <stdlib.h>
 #include <string.h>
-
-/* The gauge itself. On a handset these bytes lie in RAM that is copied to flash or battery-backed memory. */
-static uint8_t saved[GAUGE_SAVED_LENGTH];
-
-/* For calls whose arguments the program itself chose: a refusal is then a mistake in the program. */
-static void must(const char *call, uint32_t number)
-{
-    if (number != GAUGE_OK) {
-        printf("%s: refused %u (%s)\n", call, (unsigned)number, gauge_refusal_text(number));
-        exit(EXIT_FAILURE);
-    }
-}
-
-static void windows(unsigned count, int32_t current, int32_t voltage, int32_t temperature)
-{
-    for (unsigned i = 0; i < count; i++)
-        must("gauge_window", gauge_window(saved, sizeof saved, current, voltage, temperature));
-}
-
-/* One read brings FLAGS to TTE. The host's frame has two bytes of its own before the registers, which the read keeps. */
-static void show(const char *moment)
-{
-    enum { first = GAUGE_REG_FLAGS, count = GAUGE_REG_TTE + 2 - GAUGE_REG_FLAGS, header = 2 };
-    uint8_t frame[header + count] = {first, count};
-    const uint8_t *registers = frame + header;
-
-    must("gauge_read", gauge_read(saved, sizeof saved, first, count, frame, sizeof frame, header));
-    if (frame[0] != first || frame[1] != count) {
-        printf("the frame's header changed\n");
-        exit(EXIT_FAILURE);
-    }
-    printf("%-24s %5u %5u %5u %5u %5u %5u\n", moment, gauge_pair(registers + GAUGE_REG_NAC - first),
-           gauge_pair(registers + GAUGE_REG_LMD - first), (unsigned)registers[GAUGE_REG_RSOC - first],
-           (unsigned)registers[GAUGE_REG_FLAGS - first], gauge_pair(registers + GAUGE_REG_CAC - first),
-           gauge_pair(registers + GAUGE_REG_TTE - first));
-}
 
 static uint8_t mode(void)
 {
@@ -60,13 +24,6 @@ static uint32_t command(uint8_t bit, uint8_t key)
     uint32_t number = gauge_write(saved, sizeof saved, GAUGE_REG_MODE, kept | bit);
 
     return number != GAUGE_OK ? number : gauge_write(saved, sizeof saved, GAUGE_REG_CTRL, key);
-}
-
-/* Prints a call's number and whether the bytes it was given are as they were before it. */
-static void show_refusal(const char *call, uint32_t number, const uint8_t *gauge, const uint8_t *before)
-{
-    printf("%-24s refused %u, gauge %s\n", call, (unsigned)number,
-           memcmp(gauge, before, GAUGE_SAVED_LENGTH) == 0 ? "unchanged" : "changed");
 }
 
 static void show_refusals(void)
@@ -93,8 +50,15 @@ static void show_refusals(void)
     show_refusal("reply 4, place 3", number, saved, before);
 }
 
-/* Where form 1 keeps some of its fields. Firmware needs none of this; it is here to damage them as a bad flash cell would. */
-enum saved_place { SAVED_FORM = 0, SAVED_HELD_HIGHEST = 18, SAVED_DRAIN_LOWEST = 19, SAVED_TEMP_HIGH = 36, SAVED_FLAGS = 40 };
+/* Where form 2 keeps some of its fields. Firmware needs none of this; it is here to damage them as a bad flash cell would. */
+enum saved_place {
+    SAVED_FORM = 0,
+    SAVED_HELD_HIGHEST = 18,
+    SAVED_DRAIN_LOWEST = 19,
+    SAVED_SI_HIGH = 30,
+    SAVED_TEMP_HIGH = 36,
+    SAVED_FLAGS = 40
+};
 
 static void show_damage(const char *field, enum saved_place place, uint8_t bits)
 {
@@ -111,6 +75,7 @@ static void show_damages(void)
     show_damage("another form", SAVED_FORM, 0x80);
     show_damage("charge above capacity", SAVED_HELD_HIGHEST, 0x40);
     show_damage("drain without a run", SAVED_DRAIN_LOWEST, 0x01);
+    show_damage("SI above its limit", SAVED_SI_HIGH, 0x02);
     show_damage("temperature of no range", SAVED_TEMP_HIGH, 0x80);
     show_damage("flag that is none", SAVED_FLAGS, 0x08);
 }
@@ -133,20 +98,21 @@ static void power_cut(void)
     printf("%-24s registers %s\n", "copied back", memcmp(before, after, sizeof before) == 0 ? "equal" : "differ");
 }
 
-int main(void)
+static void on_the_charger(void)
 {
     must("gauge_open", gauge_open(bench_pack, sizeof bench_pack, saved, sizeof saved));
-    printf("%-24s %5s %5s %5s %5s %5s %5s\n", "", "NAC", "LMD", "RSOC", "FLAGS", "CAC", "TTE");
     show("opened");
-
     windows(1, 2, 3700, 1192);
     show("2 units count as 0");
     windows(1, 20, 4150, 1192);
     show("full by taper");
     windows(1, -3000, 3600, 1192);
     show("first drain");
+}
 
-    /* Three rows, each with a stop on the cradle too short to fill the cell. */
+/* Three rows, each with a stop on the cradle too short to fill the cell. */
+static void rows(void)
+{
     for (int row = 1; row <= 3; row++) {
         windows(60, -2800, 3650, 1200);
         printf("row %d\n", row);
@@ -154,27 +120,46 @@ int main(void)
         windows(9, 4000, 3950, 1216);
         show("  cradle stop");
     }
+}
 
+/* SI settles at the standby load, so STTE comes to be the TTE of that load. A rest counts no current and keeps SI. */
+static void standby(void)
+{
     windows(40, -15, 3800, 1196);
     show("standby");
     must("gauge_rest", gauge_rest(saved, sizeof saved, 16875, 1180));
     show("a day off");
+}
 
-    /* The charger reports that the cell is full; NAC is set to LMD and a run begins. */
+/* The charger reports that the cell is full; NAC is set to LMD and a run begins. */
+static void done_by_the_host(void)
+{
     must("DONE", command(GAUGE_MODE_DONE, GAUGE_KEY_DONE));
     show("DONE by the host");
     printf("%-24s 0x%02X\n", "MODE after DONE", (unsigned)mode());
+}
 
-    /* A run from full to the first end-of-discharge voltage teaches the capacity, and CI is cleared. */
+/* A run from full to the first end-of-discharge voltage teaches the capacity, and CI is cleared. */
+static void learning_run(void)
+{
     windows(80, -8000, 3500, 1192);
     show("run");
     windows(1, -8000, 3000, 1192);
     show("run taught");
     windows(1, -8000, 2800, 1192);
     show("final voltage");
-
     windows(30, 5000, 3900, 1208);
     show("cradle again");
+}
+
+int main(void)
+{
+    shown_heading();
+    on_the_charger();
+    rows();
+    standby();
+    done_by_the_host();
+    learning_run();
     show_refusals();
     show_damages();
     power_cut();

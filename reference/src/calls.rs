@@ -1,7 +1,10 @@
-//! The five calls on the saved bytes. 0 is success; a refusal is its number, and no byte has changed then.
+//! The six calls on the saved bytes. 0 is success; a refusal is its number, and no byte has changed then.
+//!
+//! All but `convert` take the newest form alone, and an older one is 14 there (paper 02, A1).
 
 use crate::command;
 use crate::configuration::Configuration;
+use crate::forms;
 use crate::gauge::Gauge;
 use crate::refusal;
 use crate::registers;
@@ -16,26 +19,22 @@ fn number(answer: Result<(), u32>) -> u32 {
     }
 }
 
-/// Puts a gauge into bytes that were loaded before, so their length is 41.
-fn put(gauge: &Gauge, saved: &mut [u8]) {
-    if let Ok(place) = <&mut [u8; LENGTH]>::try_from(saved) {
-        store(gauge, place);
-    }
+/// Saving: refuses 13 where the bytes are not as many as the newest form has. Bytes that were loaded before always are.
+fn save(gauge: &Gauge, saved: &mut [u8]) -> Result<(), u32> {
+    let place: &mut [u8; LENGTH] = saved.try_into().map_err(|_| refusal::REPLY)?;
+    store(gauge, place);
+    Ok(())
 }
 
 /// Opening: refuses 1, 2, 13. What stood in the saved bytes does not matter.
 pub fn open(configuration: &[u8], saved: &mut [u8]) -> u32 {
-    let opened = match Configuration::new(configuration) {
-        Ok(configuration) => Gauge::opened(configuration),
-        Err(refused) => return refused,
-    };
-    match <&mut [u8; LENGTH]>::try_from(saved) {
-        Ok(place) => {
-            store(&opened, place);
-            0
-        }
-        Err(_) => refusal::REPLY,
-    }
+    number(Configuration::new(configuration).and_then(|configuration| save(&Gauge::opened(configuration), saved)))
+}
+
+/// Converting: the gauge that bytes of any form hold, saved in the newest form, so that a handset updated mid-drive goes on (paper 02,
+/// A1). Refuses 14, 13.
+pub fn convert(old: &[u8], saved: &mut [u8]) -> u32 {
+    number(forms::load(old).and_then(|gauge| save(&gauge, saved)))
 }
 
 /// A window: refuses 14, 3, 4, 5.
@@ -43,8 +42,7 @@ pub fn window(saved: &mut [u8], current: i32, voltage: i32, temperature: i32) ->
     number(load(saved).and_then(|mut gauge| {
         refusal::window(current, voltage, temperature)?;
         window::window(&mut gauge, current, voltage, temperature);
-        put(&gauge, saved);
-        Ok(())
+        save(&gauge, saved)
     }))
 }
 
@@ -53,8 +51,7 @@ pub fn rest(saved: &mut [u8], windows: u32, temperature: i32) -> u32 {
     number(load(saved).and_then(|mut gauge| {
         refusal::rest(windows, temperature)?;
         rest::rest(&mut gauge, windows, temperature);
-        put(&gauge, saved);
-        Ok(())
+        save(&gauge, saved)
     }))
 }
 
@@ -62,8 +59,7 @@ pub fn rest(saved: &mut [u8], windows: u32, temperature: i32) -> u32 {
 pub fn write(saved: &mut [u8], address: u32, value: u8) -> u32 {
     number(load(saved).and_then(|mut gauge| {
         command::write(&mut gauge, address, value)?;
-        put(&gauge, saved);
-        Ok(())
+        save(&gauge, saved)
     }))
 }
 

@@ -55,8 +55,9 @@ pub fn ttf(gauge: &Gauge) -> i64 {
     }
 }
 
+/// By the SI that is shown, not by its sixteenths (paper 02, A1).
 pub fn stte(gauge: &Gauge) -> i64 {
-    minutes(60 * i64::from(gauge.nac()), gauge.si)
+    minutes(60 * i64::from(gauge.nac()), gauge.si())
 }
 
 pub fn artte(gauge: &Gauge) -> i64 {

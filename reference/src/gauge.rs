@@ -13,6 +13,9 @@ pub const EDVF: u8 = 0x01;
 /// Bit 2 of MODE.
 pub const INIT: u8 = 0x04;
 
+/// The parts of a unit in which SI is kept (paper 02, A1).
+pub const SIXTEENTHS: i32 = 16;
+
 /// The fields of the saved gauge. IAV is not one of them: it is |c| always.
 #[derive(Clone, Copy, Debug, PartialEq, Eq)]
 pub struct Gauge {
@@ -22,7 +25,8 @@ pub struct Gauge {
     /// Drain of the run, in grains; 0 without a run.
     pub dcr: i64,
     pub lmd: i32,
-    pub si: i32,
+    /// Standby current in sixteenths of a unit (paper 02, A1); `si` is what the register shows.
+    pub si_sixteenths: i32,
     /// The last counted current, positive charging; 0 after opening or a rest.
     pub c: i32,
     pub volt: i32,
@@ -39,7 +43,7 @@ impl Gauge {
             h: 0,
             dcr: 0,
             lmd: configuration.design_capacity(),
-            si: configuration.s0(),
+            si_sixteenths: SIXTEENTHS * configuration.s0(),
             c: 0,
             volt: 0,
             temp: 0,
@@ -55,6 +59,11 @@ impl Gauge {
 
     pub fn iav(&self) -> i32 {
         self.c.abs()
+    }
+
+    /// SI as it is shown, in units: the ceiling of a sixteenth of what is kept (paper 02, A1).
+    pub fn si(&self) -> i32 {
+        (self.si_sixteenths + SIXTEENTHS - 1) / SIXTEENTHS
     }
 
     pub fn vdq(&self) -> bool {

@@ -56,7 +56,8 @@ impl History {
     }
 
     /// The start at a gauge that was loaded from saved bytes, which paper 01 does not have: what the calls before it left is taken from
-    /// that gauge, and nothing after. At an opened gauge it is `opened`, which takes nothing from the gauge.
+    /// that gauge, and nothing after. At an opened gauge it is `opened`, which takes nothing from the gauge. A handset updated
+    /// mid-drive (paper 02, A1) goes on with the history that begins at what its older bytes held.
     pub fn begun(gauge: &Gauge) -> History {
         History {
             configuration: gauge.configuration,

@@ -1,6 +1,6 @@
 //! The fourteen numbers (paper 01, "The fourteen numbers") and, for each call, which of them its arguments give.
 //!
-//! Number 14 is about the saved bytes and is found in `saved`. Each function here tests in the order of the paper's table.
+//! Number 14 is about the saved bytes and is found in `forms`. Each function here tests in the order of the paper's table.
 
 use crate::command;
 

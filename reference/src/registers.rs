@@ -64,7 +64,7 @@ fn register(gauge: &Gauge, address: usize) -> Register {
         0x14 | 0x15 => (0x14, 2, i64::from(gauge.iav())),
         0x16 | 0x17 => (0x16, 2, tte(gauge)),
         0x18 | 0x19 => (0x18, 2, ttf(gauge)),
-        0x1A | 0x1B => (0x1A, 2, i64::from(gauge.si)),
+        0x1A | 0x1B => (0x1A, 2, i64::from(gauge.si())),
         0x1C | 0x1D => (0x1C, 2, stte(gauge)),
         0x20 | 0x21 => (0x20, 2, i64::from(gauge.configuration.e1())),
         // CTRL, which always reads 0, and the bytes 0x1E and 0x1F.

@@ -3,6 +3,7 @@
 use crate::calls;
 use crate::configuration::Configuration;
 use crate::fixing::FixingPoints;
+use crate::forms;
 use crate::gauge::Gauge;
 use crate::history::{Call, History};
 use crate::saved;
@@ -21,9 +22,9 @@ impl Trace {
         Ok(Trace::new(&Gauge::opened(configuration), History::opened(configuration)))
     }
 
-    /// Takes saved bytes, or the number 14. The history begins there.
+    /// Takes saved bytes of any form, or the number 14. The history begins there.
     pub fn load(saved: &[u8]) -> Result<Trace, u32> {
-        let gauge = saved::load(saved)?;
+        let gauge = forms::load(saved)?;
         Ok(Trace::new(&gauge, History::begun(&gauge)))
     }
 

@@ -81,9 +81,9 @@ fn qualifies(gauge: &Gauge) -> bool {
     gauge.vdq() && gauge.temp >= gauge.configuration.cold_limit() && gauge.iav() > gauge.configuration.standby_limit()
 }
 
-/// The standby current follows light discharges.
+/// The standby current follows light discharges, in sixteenths (paper 02, A1). It stays exactly where the SI shown is the load.
 fn step_5(gauge: &mut Gauge) {
     if gauge.c < 0 && gauge.iav() <= gauge.configuration.standby_limit() {
-        gauge.si = (15 * gauge.si + gauge.iav()) / 16;
+        gauge.si_sixteenths = 15 * gauge.si_sixteenths / 16 + gauge.iav();
     }
 }

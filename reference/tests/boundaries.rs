@@ -141,16 +141,6 @@ fn learning_is_floored_and_bounded() {
 }
 
 #[test]
-fn the_standby_current_follows_light_discharges_only() {
-    for (a, si) in [(-20, 10), (-21, 10), (-3, 9), (20, 10), (-2, 10)] {
-        assert_eq!(gauge(&after(opened(), a, 3600, 1192)).si, si);
-    }
-    let raised = with(|gauge| gauge.si = 20);
-    assert_eq!(gauge(&after(raised, -20, 3600, 1192)).si, 20);
-    assert_eq!(gauge(&after(raised, -19, 3600, 1192)).si, 19);
-}
-
-#[test]
 fn charging_ends_a_run_and_clears_both_end_flags() {
     let low = with(|gauge| {
         gauge.flags = CI | VDQ | EDV1 | EDVF;

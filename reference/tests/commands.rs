@@ -13,7 +13,7 @@ fn used(mode: u8, ar: i32) -> [u8; 41] {
             h: 500 * G + 77,
             dcr: 33,
             lmd: 900,
-            si: 7,
+            si_sixteenths: 7,
             c: 40,
             volt: 3900,
             temp: 1100,

@@ -78,16 +78,17 @@ fn pkcfg_bit_1_fixes_dcomp_and_the_register_still_shows_the_byte() {
 
 #[test]
 fn times_stop_at_65535_and_need_their_direction() {
-    let held = |c: i32, si: i32, ar: i32| {
+    let held = |c: i32, si_sixteenths: i32, ar: i32| {
         with(|gauge| {
             gauge.h = 1000 * G;
             gauge.c = c;
-            gauge.si = si;
+            gauge.si_sixteenths = si_sixteenths;
             gauge.ar = ar;
             gauge.flags = if c > 0 { CI | CHGS } else { CI };
         })
     };
-    assert_eq!([0, 1, 20].map(|si| pair(&held(0, si, 0), 0x1C)), [65_535, 60_000, 3000]);
+    // STTE divides by the SI shown: 0, 1, 1, 2, 20.
+    assert_eq!([0, 1, 16, 17, 320].map(|si| pair(&held(0, si, 0), 0x1C)), [65_535, 60_000, 60_000, 30_000, 3000]);
     assert_eq!([0, 1, 7].map(|ar| pair(&held(0, 0, ar), 0x04)), [65_535, 60_000, 8571]);
     assert_eq!([-3, 0, 3].map(|c| pair(&held(c, 0, 0), 0x16)), [20_000, 65_535, 65_535]);
     assert_eq!([-3, 0, 7].map(|c| pair(&held(c, 0, 0), 0x18)), [65_535, 65_535, 308]);
@@ -95,7 +96,7 @@ fn times_stop_at_65535_and_need_their_direction() {
     let over = with(|gauge| {
         gauge.lmd = 1093;
         gauge.h = 1093 * G;
-        gauge.si = 1;
+        gauge.si_sixteenths = 1;
     });
     assert_eq!((pair(&longest, 0x1C), pair(&over, 0x1C)), (6144, 65_535));
     assert_eq!(pair(&held(0, 0, 65_535), 0x04), 0);

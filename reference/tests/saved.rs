@@ -1,4 +1,4 @@
-//! The saved bytes: their layout, and every condition of acceptance at its edge and one beyond.
+//! The newest form of the saved bytes: its layout, and every condition of acceptance at its edge and one beyond.
 
 mod common;
 use common::*;
@@ -16,7 +16,7 @@ fn every_field_stands_in_its_place() {
             h: 0x12_3456_789A,
             dcr: 0x3_2109_8765,
             lmd: 0xFEDC,
-            si: 0x0014,
+            si_sixteenths: 0x0123,
             c: -0x1234,
             volt: 0x0ABC,
             temp: 0x04D2,
@@ -28,9 +28,9 @@ fn every_field_stands_in_its_place() {
     });
     #[rustfmt::skip]
     let expected = [
-        1, 0x04, 0x5E, 0x77, 0x05, 0x21, 0x10, 0x00, 0x00, 0x6C, 0x15,
+        2, 0x04, 0x5E, 0x77, 0x05, 0x21, 0x10, 0x00, 0x00, 0x6C, 0x15,
         0x9A, 0x78, 0x56, 0x34, 0x12, 0, 0, 0, 0x65, 0x87, 0x09, 0x21, 0x03, 0, 0, 0,
-        0xDC, 0xFE, 0x14, 0x00, 0xCC, 0xED, 0xBC, 0x0A, 0xD2, 0x04, 0xEF, 0xBE, 0x5A, 0x04,
+        0xDC, 0xFE, 0x23, 0x01, 0xCC, 0xED, 0xBC, 0x0A, 0xD2, 0x04, 0xEF, 0xBE, 0x5A, 0x04,
     ];
     assert_eq!(bytes, expected);
     let mut again = [0xEE; 41];
@@ -42,7 +42,7 @@ fn every_field_stands_in_its_place() {
 fn length_form_and_ilmd() {
     let bytes = opened();
     assert!((0..=64).all(|length| load(&[bytes.as_slice(), &[0; 23]].concat()[..length]).is_ok() == (length == 41)));
-    for form in [0, 2, 255] {
+    for form in [0, 1, 3, 255] {
         let mut other = bytes;
         other[0] = form;
         assert_eq!(load(&other), Err(14));
@@ -73,7 +73,7 @@ fn measures() {
     /// Sets a field, with values that are accepted and values that are not.
     type Edge = (fn(&mut Gauge, i32), &'static [i32], &'static [i32]);
     let edges: [Edge; 3] = [
-        (|gauge, value| gauge.si = value, &[0, 20], &[21, 65_535]),
+        (|gauge, value| gauge.si_sixteenths = value, &[0, 320], &[321, 65_535]),
         (|gauge, value| gauge.volt = value, &[0, 2600, 4500], &[1, 2599, 4501, 65_535]),
         (|gauge, value| gauge.temp = value, &[0, 1012, 1372], &[1, 1011, 1373, 65_535]),
     ];

@@ -85,3 +85,29 @@ awk 'BEGIN { print "c v t"; for (i = 0; i < 200000; i++) print "0 3700 1192" }' 
 run long.txt
 expect "a list of 200000 windows" "# 200001 calls, none refused 284:26:40.00" \
     "$(tail -n 1 printed) $(rows | tail -n 1 | awk '{ print $1 }')"
+
+# Request A1: a steady load of 40 from SI 30 comes to be shown, where 490 / 16 floored to 30 for ever. SI is kept in sixteenths, and the register
+# shows the ceiling: 480 (30), then floor(15 * 480 / 16) + 40 = 490 (31), 459 + 40 = 499 (32), 467 + 40 = 507 (32), and so on up to 625 (40), where
+# floor(15 * 625 / 16) + 40 is 625 again. A load of 20 brings it down: 585 + 20 = 605 (38), 567 + 20 = 587 (37), and so on to 320 (20), which stays.
+# STTE divides by what is shown: NAC 511 after the first window gives floor(60 * 511 / 31) = 989. After 60 windows of 40, 3.4 counts, NAC is 508 and
+# STTE 60 * 508 / 40 = 762; after 60 more of 20, 1.7 counts, 506 and 60 * 506 / 20 = 1518.
+standby_pack='open 04 5E 77 0F 21 10 00 00 6C 15\nnac 512\n'
+standby_of() { # rows of the table, by number: NAC, SI, STTE
+    local row
+    for row in "$@"; do registers | sed -n "${row}p" | awk '{ print $1, $15, $16 }'; done
+}
+list standby.txt "$standby_pack$(printf -- '-40 3800 1192\\n%.0s' {1..60})$(printf -- '-20 3800 1192\\n%.0s' {1..60})"
+run --all standby.txt
+expect "steady load: NAC, SI, STTE at its begin" "512 30 1024
+511 31 989
+511 32 958
+511 32 958" "$(standby_of 2 3 4 5)"
+expect "steady load: NAC, SI, STTE at its end" "508 40 762" "$(standby_of 62)"
+expect "steady load: SI falls" "38 37" "$(standby_of 63 64 | awk '{ printf "%s%s", (NR > 1 ? " " : ""), $2 }')"
+expect "steady load: NAC, SI, STTE after the fall" "506 20 1518" "$(standby_of 122)"
+
+# Only a discharge of at most 2 * S0 = 60 moves it: 450 + 60 = 510 (32). More, none (2 units are within DMF), charging and a rest leave it;
+# PRST and FRST set 16 * S0.
+list standby.txt "$standby_pack-61 3800 1192\n-2 3800 1192\n100 3800 1192\nrest 10 1192\n-60 3800 1192\npartial\n-60 3800 1192\nreset\n"
+run --all standby.txt
+expect "what moves SI" "30 30 30 30 30 30 32 30 32 30" "$(registers | awk '{ printf "%s%s", (NR > 1 ? " " : ""), $15 }')"

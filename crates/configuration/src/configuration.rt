@@ -71,6 +71,7 @@ pub fn e1(configuration: Configuration) -> u16
 
 pub fn s0(configuration: Configuration) -> u16
     ensures { λ r. ⌜ r ≡ Spec.s0 configuration ⌝ }
+    ensures range { λ r. ⌜ r ≤ 510 ⌝ }
 {
     2 * byte(configuration, ISLC) as u16
 }

@@ -21,7 +21,8 @@ use Rattle.history.specs.Claim.{Taken}
 use Rattle.history.proofs.ListLaws.{opened-answer, opened-taken}
 use Rattle.history.proofs.StayLaws.{stays-accepted}
 use Rattle.refusals.specs.Refusal as Refusal
-use Rattle.saved.specs.Load.{loadAnswer}
+use Rattle.saved.specs.Form.{newest}
+use Rattle.saved.specs.Load.{answerIn}
 use Rattle.saved.specs.Save.{lengthRefusal, savedBytes}
 use Rattle.saved.proofs.RoundTripLaws.{load-of-saved}
 use Rattle.drive.specs.Claim.{EveryDrive, Holds}
@@ -30,7 +31,7 @@ use Rattle.drive.specs.Drive.{bytesAfter, calledBytes, calledNumber}
 abbrev answer : Gauge → Answer
 answer g = record { number = Refusal.none; gauge = g }
 
-pub loads : (g : Gauge) → Taken g → loadAnswer (savedBytes g) ≡ answer g
+pub loads : (g : Gauge) → Taken g → answerIn newest (savedBytes g) ≡ answer g
 loads g k = load-of-saved g (k .fits) (k .accepted)
 
 -- ---- one call
@@ -39,11 +40,11 @@ either : (t : Bool) (a g : Gauge) → cond t (savedBytes (cond t a g)) (savedByt
 either true a g = refl
 either false a g = refl
 
-call-number : (g : Gauge) (call : Gauge → Answer) → loadAnswer (savedBytes g) ≡ answer g → callNumber (savedBytes g) call ≡ (call g) .number
+call-number : (g : Gauge) (call : Gauge → Answer) → answerIn newest (savedBytes g) ≡ answer g → callNumber (savedBytes g) call ≡ (call g) .number
 unfolding callNumber
 call-number g call e = rw e
 
-call-bytes : (g next : Gauge) (n : ℕ) (call : Gauge → Answer) → loadAnswer (savedBytes g) ≡ answer g → call g ≡ answered n g next
+call-bytes : (g next : Gauge) (n : ℕ) (call : Gauge → Answer) → answerIn newest (savedBytes g) ≡ answer g → call g ≡ answered n g next
     → callBytes (savedBytes g) call ≡ savedBytes ((call g) .gauge)
 unfolding callBytes callNumber
 call-bytes g next n call e a = rw (e, a) (either (eqb n 0) next g)
@@ -81,7 +82,7 @@ list-holds calls g k =
 
 -- ---- opening
 
-first-none : (m n : ℕ) → cond (eqb m 0) n m ≡ 0 → m ≡ 0
+pub first-none : (m n : ℕ) → cond (eqb m 0) n m ≡ 0 → m ≡ 0
 first-none m n e = go (eqb m 0) refl e
   where
     go : (t : Bool) → eqb m 0 ≡ t → cond t n m ≡ 0 → m ≡ 0

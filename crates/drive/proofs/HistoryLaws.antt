@@ -19,7 +19,7 @@ use Rattle.saved.specs.Save.{savedBytes}
 use Rattle.drive.specs.Claim.{FromOpening, FromSaved, HoldsHistory}
 use Rattle.drive.specs.Drive.{bytesAfter}
 use Rattle.drive.proofs.DriveLaws.{list-bytes, list-taken, loads, opened-bytes, opens, step-numbers}
-use Rattle.drive.proofs.SavedLaws.{is-loadable, load-answer, load-taken, loaded-is, same-bytes}
+use Rattle.drive.proofs.SavedLaws.{carried-newest, load-taken, loaded-is, same-bytes}
 
 charge-back : (g : Gauge) → Taken g → loadedCharge newest (savedBytes g) ≡ g .charge
 unfolding loaded
@@ -36,7 +36,7 @@ gauge-holds g x k a =
       numbers = λ call. step-numbers g k call ∙ a .refused call;
     }
 
-list-holds : (calls : List Call) (g : Gauge) → Taken g → HoldsHistory (bytesAfter calls (savedBytes g)) (afterCalls calls (begun g))
+pub list-holds : (calls : List Call) (g : Gauge) → Taken g → HoldsHistory (bytesAfter calls (savedBytes g)) (afterCalls calls (begun g))
 list-holds calls g k =
     rw (list-bytes calls g k) (gauge-holds (after calls g) (afterCalls calls (begun g)) (list-taken calls g k) (from-any-gauge g k calls))
 
@@ -46,6 +46,5 @@ from-opening c buffer bytes e calls =
 
 pub from-saved : FromSaved
 from-saved s small e calls =
-    let l = is-loadable s e in
-    let h = list-holds calls (loaded newest s) (load-taken s small l) in
-    rw (load-answer s small l) (rw (same-bytes s small l) at h)
+    let h = list-holds calls (loaded newest s) (load-taken s small e) in
+    rw (← carried-newest .begun s) (rw (same-bytes s small e) at h)

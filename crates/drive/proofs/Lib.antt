@@ -1,3 +1,5 @@
 pub mod DriveLaws
 pub mod HistoryLaws
+pub mod OlderFormsLaws
 pub mod SavedLaws
+pub mod UpdateLaws

@@ -1,25 +1,28 @@
--- Accepted bytes hold a gauge of the widths that every gauge has, and they are the bytes of that gauge. Assumes nothing.
-use mathlib.Core.Bool.{Bool, true, false, _&&_, cond}
+-- Accepted bytes of a form hold a gauge of the widths that every gauge has, and a history begins at what they hold as at that gauge; bytes of the
+-- newest form are the bytes of that gauge. Assumes nothing.
+use mathlib.Core.Bool.{Bool, true, false, cond}
 use mathlib.Core.List.{List, [], _∷_}
 use mathlib.Core.Path.{_≡_, refl, sym, ap, _∙_}
 use Prim.Native.Nat.{ℕ, zero, suc, _+_, _*_, _≤_, _<_}
 use native.Mathlib.Omega.{arith}
+use lib.Dec.{eqb}
 use lib.ListN.{getD, length}
 use Rattle.gauge.specs.Accepted.{accepted}
 use Rattle.gauge.specs.Fits.{TenBytes}
 use Rattle.gauge.specs.declared.answer.Answer.{Answer}
 use Rattle.gauge.specs.declared.state.Gauge.{Gauge}
 use Rattle.gauge.proofs.AcceptedLaws.{sound}
-use Rattle.history.specs.Claim.{Taken}
+use Rattle.history.specs.Claim.{Taken, begun}
 use Rattle.history.proofs.Standing.{Standing, taken}
-use Rattle.numbers.specs.Little.{bytesAt}
-use Rattle.numbers.proofs.BoolLaws.{and-left, and-right}
+use Rattle.numbers.specs.Little.{bytesAt, numberAt}
 use Rattle.numbers.proofs.LittleLaws.{number-fits}
 use Rattle.refusals.specs.Refusal as Refusal
-use Rattle.saved.specs.Form.{Ar, Configuration, Lmd, Mode, newest, placeOf}
-use Rattle.saved.specs.Load.{formFits, loadAnswer, loadRefusal, loadable, loaded, loadedCharge, loadedHost, rejectedAnswer}
+use Rattle.saved.specs.Form.{Form, form1, formOf, newest}
+use Rattle.saved.specs.Load.{answerIn, loaded, loadedCharge, loadedHost}
 use Rattle.saved.specs.Save.{savedBytes}
+use Rattle.saved.proofs.LoadLaws.{loads}
 use Rattle.saved.proofs.RoundTripLaws.{saved-loaded}
+use Rattle.drive.specs.Claim.{begunIn}
 
 abbrev answer : Gauge → Answer
 answer g = record { number = Refusal.none; gauge = g }
@@ -35,55 +38,63 @@ at-small zero place s small k = omega arith
 at-small (suc width) place s small zero = small place
 at-small (suc width) place s small (suc k) = at-small width (suc place) s small k
 
--- ---- accepted bytes
+-- ---- bytes of a form
 
-refused-not : (t : Bool) → cond t Refusal.none Refusal.rejected ≡ Refusal.none → t ≡ true
-refused-not true e = refl
-refused-not false e = let z : ⊥ = omega arith in absurd z
+-- what every form gives that is read
+pub record Carried (form : Form) : Type 0 where
+  pub taken : (s : List ℕ) → ((k : ℕ) → getD s k 0 < 256) → accepted (loaded form s) ≡ true → Taken (loaded form s)
+  pub begun : (s : List ℕ) → begun (loaded form s) ≡ begunIn form s
 
-pub is-loadable : (s : List ℕ) → loadRefusal s ≡ Refusal.none → loadable s ≡ true
-unfolding loadRefusal
-is-loadable s e = refused-not (loadable s) e
+-- a gauge whose configuration, LMD, MODE and AR are read from bytes at their places
+read-taken : (s : List ℕ) (g : Gauge) → ((k : ℕ) → getD s k 0 < 256) → accepted g ≡ true → g .configuration ≡ bytesAt 10 1 s
+    → g .charge .lmd ≡ numberAt 2 27 s → g .host .mode ≡ numberAt 1 39 s → g .host .ar ≡ numberAt 2 37 s → Taken g
+read-taken s g small good c l m a =
+    let lmd = number-fits 27 s small in
+    let ar = number-fits 37 s small in
+    let mode = small 39 in
+    taken g
+    (record {
+      ten = rw c (record { ten = at-length 10 1 s; bytes = at-small 10 1 s small });
+      sound = sound g good;
+      lmd = omega arith;
+      host = record { mode = omega arith; ar = omega arith };
+    })
 
-module _ (s : List ℕ) (small : (k : ℕ) → getD s k 0 < 256) (e : loadable s ≡ true) where
-  fits : formFits newest s ≡ true
-  unfolding loadable
-  fits = and-left (formFits newest s) (accepted (loaded newest s)) e
+carried-1 : Carried form1
+unfolding loaded loadedCharge loadedHost begun
+carried-1 =
+    record {
+      taken = λ s small good. read-taken s (loaded form1 s) small good refl refl refl refl;
+      begun = λ s. refl;
+    }
 
-  good : accepted (loaded newest s) ≡ true
-  unfolding loadable
-  good = and-right (formFits newest s) (accepted (loaded newest s)) e
+pub carried-newest : Carried newest
+unfolding loaded loadedCharge loadedHost begun
+carried-newest =
+    record {
+      taken = λ s small good. read-taken s (loaded newest s) small good refl refl refl refl;
+      begun = λ s. refl;
+    }
 
+-- whichever form the first byte tells
+pub every-form : (s : List ℕ) → Carried (formOf s)
+every-form s = go (eqb (getD s 0 0) 1)
+  where
+    go : (t : Bool) → Carried (cond t form1 newest)
+    go true = carried-1
+    go false = carried-newest
+
+-- ---- the newest form
+
+module _ (s : List ℕ) (small : (k : ℕ) → getD s k 0 < 256) (e : (answerIn newest s) .number ≡ Refusal.none) where
   pub load-taken : Taken (loaded newest s)
-  unfolding loaded loadedCharge loadedHost
-  load-taken =
-      let l = number-fits (placeOf Lmd (newest .fields)) s small in
-      let a = number-fits (placeOf Ar (newest .fields)) s small in
-      let m = small (placeOf Mode (newest .fields)) in
-      taken (loaded newest s)
-      (record {
-        ten = record { ten = at-length 10 1 s; bytes = at-small 10 1 s small };
-        sound = sound (loaded newest s) good;
-        lmd = omega arith;
-        host = record { mode = omega arith; ar = omega arith };
-      })
+  load-taken = carried-newest .taken s small (loads newest s e .accepted)
 
   pub same-bytes : savedBytes (loaded newest s) ≡ s
-  same-bytes = saved-loaded s small fits
+  same-bytes = saved-loaded s small (loads newest s e .fits)
 
-  pub load-answer : (loadAnswer s) .gauge ≡ loaded newest s
-  unfolding loadAnswer
-  load-answer = simp e
-
--- ---- what loads as a gauge holds it
-
-pub loaded-is : (s : List ℕ) (g : Gauge) → loadAnswer s ≡ answer g → loaded newest s ≡ g
-unfolding loadAnswer rejectedAnswer
-loaded-is s g e = go (loadable s) e
-  where
-    go : (t : Bool) → cond t (answer (loaded newest s)) rejectedAnswer ≡ answer g → loaded newest s ≡ g
-    go true p = ap (λ (a : Answer). a .gauge) p
-    go false p =
-        let n : Refusal.rejected ≡ Refusal.none = ap (λ (a : Answer). a .number) p in
-        let z : ⊥ = omega arith in
-        absurd z
+-- what loads as a gauge holds it
+pub loaded-is : (s : List ℕ) (g : Gauge) → answerIn newest s ≡ answer g → loaded newest s ≡ g
+loaded-is s g e =
+    let n : (answerIn newest s) .number ≡ 0 = ap (λ (a : Answer). a .number) e in
+    sym (loads newest s n .gauge) ∙ ap (λ (a : Answer). a .gauge) e

@@ -10,15 +10,16 @@ use Rattle.gauge.specs.declared.state.Gauge.{Gauge}
 use Rattle.grains.specs.declared.run.Run.{Run}
 use Rattle.flags.specs.Byte.{vdqOf}
 use Rattle.handset.specs.Calls.{openBytes, openNumber}
+use Rattle.history.specs.Account.{fixing}
 use Rattle.history.specs.After as Gauges
 use Rattle.history.specs.Call.{Call}
-use Rattle.history.specs.Claim.{begun, runOf}
+use Rattle.history.specs.Claim.{drainOf, runOf}
 use Rattle.history.specs.History.{History, afterCalls, openedHistory}
 use Rattle.history.specs.Refused.{refusalOf}
 use Rattle.history.specs.Sums.{chargeOf}
 use Rattle.refusals.specs.Refusal as Refusal
-use Rattle.saved.specs.Form.{Dcr, Flags, Held, Lmd, newest, numberOf}
-use Rattle.saved.specs.Load.{loadAnswer, loadRefusal}
+use Rattle.saved.specs.Form.{Ar, Configuration, Dcr, Flags, Form, Held, Lmd, Mode, bytesOf, newest, numberOf}
+use Rattle.saved.specs.Load.{answerIn}
 use Rattle.saved.specs.Save.{savedBytes}
 use Rattle.drive.specs.Drive.{bytesAfter, calledNumber}
 
@@ -37,9 +38,9 @@ EveryDrive =
 
 -- ---- the bytes and the history
 
--- VDQ and DCR as they stand in the bytes
-abbrev pub runAt : List ℕ → Run
-runAt saved = record { vdq = vdqOf (numberOf Flags newest saved); dcr = numberOf Dcr newest saved }
+-- VDQ and DCR as they stand in bytes of a form
+abbrev pub runAt : Form → List ℕ → Run
+runAt form bytes = record { vdq = vdqOf (numberOf Flags form bytes); dcr = numberOf Dcr form bytes }
 
 pub record HoldsHistory (saved : List ℕ) (x : History) : Type 0 where
   -- "h equals H"
@@ -47,7 +48,7 @@ pub record HoldsHistory (saved : List ℕ) (x : History) : Type 0 where
   -- "LMD equals L"
   pub lmd : numberOf Lmd newest saved ≡ x .account .learned
   -- "VDQ is set exactly during a run, and DCR equals R, 0 without a run"
-  pub run : runAt saved ≡ runOf (x .account .run)
+  pub run : runAt newest saved ≡ runOf (x .account .run)
   -- "A call is refused exactly where the numbers below say so"; none of them is 14
   pub numbers : (call : Call) → calledNumber call saved ≡ refusalOf call (x .host)
 
@@ -57,9 +58,18 @@ FromOpening =
     (configuration buffer : List ℕ) → ((k : ℕ) → getD configuration k 0 < 256) → openNumber configuration (length buffer) ≡ Refusal.none
     → (calls : List Call) → HoldsHistory (bytesAfter calls (openBytes configuration buffer)) (afterCalls calls (openedHistory configuration))
 
--- the same from any bytes that are accepted, for the history begun at what they hold: a handset that was switched off, updated or given
--- another cell goes on
+-- the history begun at what bytes of a form hold: their h is the last fixing point, and nothing is summed yet
+abbrev pub begunIn : Form → List ℕ → History
+begunIn form bytes =
+    record {
+      configuration = bytesOf Configuration form bytes;
+      account = fixing (numberOf Held form bytes) (numberOf Lmd form bytes) (drainOf (runAt form bytes));
+      host = record { mode = numberOf Mode form bytes; ar = numberOf Ar form bytes };
+    }
+
+-- demand 3 from any bytes of the newest form that are accepted, for the history begun at what they hold: a handset that was switched off or
+-- given another cell goes on
 abbrev pub FromSaved : Type 0
 FromSaved =
-    (saved : List ℕ) → ((k : ℕ) → getD saved k 0 < 256) → loadRefusal saved ≡ Refusal.none
-    → (calls : List Call) → HoldsHistory (bytesAfter calls saved) (afterCalls calls (begun ((loadAnswer saved) .gauge)))
+    (saved : List ℕ) → ((k : ℕ) → getD saved k 0 < 256) → (answerIn newest saved) .number ≡ Refusal.none
+    → (calls : List Call) → HoldsHistory (bytesAfter calls saved) (afterCalls calls (begunIn newest saved))

@@ -1,2 +1,4 @@
 pub mod Claim
 pub mod Drive
+pub mod OlderForms
+pub mod Update

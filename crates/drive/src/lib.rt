@@ -1,5 +1,7 @@
 // Demand 3 said of the saved bytes and the calls from C. The functions do nothing; their contracts are the claims.
 ghost use Rattle.drive.specs.Claim.{EveryDrive, FromOpening, FromSaved};
+ghost use Rattle.drive.specs.OlderForms.{Form1Reads};
+ghost use Rattle.drive.specs.Update.{Converted, ConvertedSame, FromUpdate};
 
 pub fn every_drive()
     ensures { λ _. ⌜ EveryDrive ⌝ }
@@ -11,4 +13,20 @@ pub fn from_opening()
 
 pub fn from_saved()
     ensures { λ _. ⌜ FromSaved ⌝ }
+{}
+
+pub fn form_1_reads()
+    ensures { λ _. ⌜ Form1Reads ⌝ }
+{}
+
+pub fn converted()
+    ensures { λ _. ⌜ Converted ⌝ }
+{}
+
+pub fn converted_same()
+    ensures { λ _. ⌜ ConvertedSame ⌝ }
+{}
+
+pub fn from_update()
+    ensures { λ _. ⌜ FromUpdate ⌝ }
 {}

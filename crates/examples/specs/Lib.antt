@@ -1,4 +1,6 @@
 pub mod Bench
 pub mod Examples
+pub mod FormRows
 pub mod Numbers
 pub mod Rows
+pub mod StandbyRows

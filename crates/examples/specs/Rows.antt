@@ -21,7 +21,7 @@ use Rattle.reached.specs.Full.{isFull}
 use Rattle.reached.specs.declared.ending.Ending.the-variants.{Above, Edvf, Edv1, Qualified}
 use Rattle.registers.specs.Values.{fcac, flags, nac}
 use Rattle.registers.specs.Times.{artte, stte, tte, ttf}
-use Rattle.sample.specs.Standby.{averaged}
+use Rattle.standby.specs.Standby.{averaged}
 use Rattle.sample.specs.declared.current.Current.{Current}
 use Rattle.examples.specs.Bench.{afterSample, benchTerms, lineTwo, lineThree, withAr}
 
@@ -52,9 +52,9 @@ pub record Rows : Type 0 where
   -- passing: 65,535 × 135,000,000 = 8,847,225,000,000 stays, one more ends the run
   pub drain-most : unlessPassed (record { vdq = true; dcr = 8_847_225_000_000 }) ≡ record { vdq = true; dcr = 8_847_225_000_000 }
   pub drain-passed : unlessPassed (record { vdq = true; dcr = 8_847_225_000_001 }) ≡ noRun
-  -- step 5 with S0 10: (15 × 20 + 4) / 16 = 19; a load of 20 counts, one of 21 does not, no load does not
-  pub average-4 : averaged 10 20 4 ≡ 19
-  pub average-20 : averaged 10 4 20 ≡ 5
+  -- step 5 with S0 10: floor(15 × 20 / 16) + 4 = 22, floor(15 × 4 / 16) + 20 = 23; a load of 20 counts, one of 21 does not, no load does not
+  pub average-4 : averaged 10 20 4 ≡ 22
+  pub average-20 : averaged 10 4 20 ≡ 23
   pub average-21 : averaged 10 4 21 ≡ 4
   pub average-0 : averaged 10 4 0 ≡ 4
   -- the leak of 3 counts and a grain at a rate of 8

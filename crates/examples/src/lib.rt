@@ -1,8 +1,10 @@
 // Computed rows: what the request marks to be proved, its table's examples, and rules that none of those pins. The functions do nothing;
 // their contracts keep the claims in the check.
 ghost use Rattle.examples.specs.Examples.{Examples};
+ghost use Rattle.examples.specs.FormRows.{FormRows};
 ghost use Rattle.examples.specs.Numbers.{Numbers};
 ghost use Rattle.examples.specs.Rows.{Rows};
+ghost use Rattle.examples.specs.StandbyRows.{StandbyRows};
 
 pub fn proved_examples()
     ensures { λ _. ⌜ Examples ⌝ }
@@ -14,4 +16,12 @@ pub fn proved_numbers()
 
 pub fn proved_rows()
     ensures { λ _. ⌜ Rows ⌝ }
+{}
+
+pub fn proved_standby()
+    ensures { λ _. ⌜ StandbyRows ⌝ }
+{}
+
+pub fn proved_forms()
+    ensures { λ _. ⌜ FormRows ⌝ }
 {}

@@ -7,7 +7,7 @@ use Rattle.charge.proofs.ChargeLaws.{ChargeSound, charge-accepted, charge-sound
 use Rattle.configuration.specs.Configuration.{dmf, ilmd, s0}
 use Rattle.numbers.proofs.BoolLaws.{and-left, and-right, and-both}
 use Rattle.sample.specs.Sample.{sampleAccepted}
-use Rattle.sample.specs.Standby.{standbyAccepted}
+use Rattle.standby.specs.Standby.{standbyAccepted}
 use Rattle.sample.proofs.SampleLaws.{SampleSound, sample-accepted, sample-sound}
 use Rattle.gauge.specs.Accepted.{accepted}
 use Rattle.gauge.specs.declared.state.Gauge.{Gauge}

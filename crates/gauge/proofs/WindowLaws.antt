@@ -14,7 +14,7 @@ use Rattle.reached.specs.Full.{isFull}
 use Rattle.reached.specs.Reached.{chargeEnded, chargeReached, filledIf, flagsEnded, reachedBy}
 use Rattle.reached.specs.declared.ending.Ending.{Ending}
 use Rattle.sample.specs.Current.{discharge}
-use Rattle.sample.specs.Standby.{averaged}
+use Rattle.standby.specs.Standby.{averaged}
 use Rattle.sample.specs.declared.current.Current.{Current}
 use Rattle.gauge.specs.Window.{reachedIn, summed, window}
 use Rattle.gauge.specs.declared.state.Gauge.{Gauge}
@@ -28,14 +28,14 @@ module _ (c : Current) (v t : ℕ) (g : Gauge) where
   ending = endingOf (termsOf (g .configuration)) ((summed c t g) .run .vdq) (discharge c) v t
 
   -- what each callee gives, in their order
-  pub stepped-is : {x y z : Charge} {b : Bool} {d n i k : ℕ} {e : Ending} {f j : Flags} {h : Host}
+  pub stepped-is : {x y z : Charge} {b : Bool} {d i k : ℕ} {e : Ending} {f j : Flags} {h : Host}
       → x ≡ summed c t g → b ≡ isFull (termsOf (g .configuration)) c v (x .held) (x .lmd) → d ≡ discharge c
       → e ≡ endingOf (termsOf (g .configuration)) (x .run .vdq) d v t → y ≡ filledIf b x → z ≡ chargeEnded e y
       → f ≡ clearedIf (c .charging) (g .flags) → j ≡ flagsEnded e f → h ≡ fullIf b (g .host)
-      → n ≡ s0 (g .configuration) → k ≡ discharge c → i ≡ averaged n (g .standby) k
+      → k ≡ discharge c → i ≡ averaged (s0 (g .configuration)) (g .standby) k
       → gaugeWith (g .configuration) z (record { current = c; voltage = v; temperature = t }) i j h ≡ window c v t g
   unfolding window reachedIn reachedBy chargeReached full ending
-  stepped-is {x} {y} {z} {b} {d} {n} {i} {k} {e} {f} {j} {h} px pb pd pe py pz pf pj ph pn pk pi =
+  stepped-is {x} {y} {z} {b} {d} {i} {k} {e} {f} {j} {h} px pb pd pe py pz pf pj ph pk pi =
       let qb : b ≡ full = pb ∙ ap (λ (w : Charge). isFull (termsOf (g .configuration)) c v (w .held) (w .lmd)) px in
       let qe : e ≡ ending =
       pe ∙ ap (λ (m : ℕ). endingOf (termsOf (g .configuration)) (x .run .vdq) m v t) pd
@@ -44,6 +44,5 @@ module _ (c : Current) (v t : ℕ) (g : Gauge) where
       let qz : z ≡ chargeEnded ending (filledIf full (summed c t g)) = pz ∙ ap (λ (s : Ending). chargeEnded s y) qe ∙ ap (chargeEnded ending) qy in
       let qj : j ≡ flagsEnded ending (clearedIf (c .charging) (g .flags)) = pj ∙ ap (λ (s : Ending). flagsEnded s f) qe ∙ ap (flagsEnded ending) pf in
       let qh : h ≡ fullIf full (g .host) = ph ∙ ap (λ (s : Bool). fullIf s (g .host)) qb in
-      let qi : i ≡ averaged (s0 (g .configuration)) (g .standby) (discharge c) =
-      pi ∙ ap (λ (m : ℕ). averaged m (g .standby) k) pn ∙ ap (averaged (s0 (g .configuration)) (g .standby)) pk in
+      let qi : i ≡ averaged (s0 (g .configuration)) (g .standby) (discharge c) = pi ∙ ap (averaged (s0 (g .configuration)) (g .standby)) pk in
       gauge-is qz refl qi qj qh

@@ -6,7 +6,7 @@ use Rattle.charge.specs.Charge.{chargeAccepted}
 use Rattle.configuration.specs.Configuration.{ilmd}
 use Rattle.configuration.specs.Terms.{termsOf}
 use Rattle.sample.specs.Sample.{sampleAccepted}
-use Rattle.sample.specs.Standby.{standbyAccepted}
+use Rattle.standby.specs.Standby.{standbyAccepted}
 use Rattle.gauge.specs.declared.state.Gauge.{Gauge}
 
 -- "ILMD > 0", and what is asked of the charge, of SI and of the sample

@@ -8,7 +8,7 @@ use Rattle.configuration.specs.Terms.{termsOf}
 use Rattle.flags.specs.Flags.{flagsObeyed}
 use Rattle.host.specs.Host.{hostObeyed}
 use Rattle.sample.specs.Sample.{sampleReset}
-use Rattle.sample.specs.Standby.{standbyReset}
+use Rattle.standby.specs.Standby.{standbyReset}
 use Rattle.gauge.specs.declared.state.Gauge.{Gauge}
 
 unfoldable pub obeyed : Command → Gauge → Gauge

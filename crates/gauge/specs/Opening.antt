@@ -11,18 +11,19 @@ use Rattle.flags.specs.Flags.{openedFlags}
 use Rattle.host.specs.Host.{openedHost}
 use Rattle.refusals.specs.Refusal as Refusal
 use Rattle.sample.specs.Sample.{noSample}
+use Rattle.standby.specs.Standby.{openedStandby}
 use Rattle.gauge.specs.Answer.{answered}
 use Rattle.gauge.specs.declared.answer.Answer.{Answer}
 use Rattle.gauge.specs.declared.state.Gauge.{Gauge}
 
--- "LMD = design capacity, h, DCR, c, IAV, AR, VOLT, TEMP 0, SI = S0, flags only CI", MODE as opened
+-- "LMD = design capacity, h, DCR, c, IAV, AR, VOLT, TEMP 0 .. flags only CI", MODE as opened; SI "opening at 16 × S0" (A1 of paper 02)
 unfoldable pub opened : List ℕ → Gauge
 opened c =
     record {
       configuration = c;
       charge = openedCharge (termsOf c);
       sample = noSample;
-      standby = (termsOf c) .s0;
+      standby = openedStandby ((termsOf c) .s0);
       flags = openedFlags true;
       host = openedHost (termsOf c);
     }

@@ -8,7 +8,7 @@ use Rattle.grains.specs.Leak.{leakRate}
 use Rattle.host.specs.Host.{fullIf}
 use Rattle.reached.specs.Reached.{Reached, chargeReached, flagsEnded, reachedBy}
 use Rattle.sample.specs.Current.{discharge}
-use Rattle.sample.specs.Standby.{averaged}
+use Rattle.standby.specs.Standby.{averaged}
 use Rattle.sample.specs.declared.current.Current.{Current}
 use Rattle.gauge.specs.declared.state.Gauge.{Gauge}
 

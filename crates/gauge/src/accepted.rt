@@ -4,8 +4,7 @@ ghost use Rattle.gauge.specs.Accepted as Spec;
 use crate::state::Gauge;
 use configuration::configuration::dmf;
 use configuration::configuration::ilmd;
-use configuration::configuration::s0;
-use sample::standby::standby_accepted;
+use standby::standby::standby_accepted;
 
 impl Gauge {
     pub fn accepted(self) -> bool
@@ -18,7 +17,7 @@ impl Gauge {
         if !self.charge.accepted() {
             return false;
         }
-        if !standby_accepted(s0(configuration), self.standby) {
+        if !standby_accepted(configuration, self.standby) {
             return false;
         }
         self.sample.accepted(dmf(configuration))

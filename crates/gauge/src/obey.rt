@@ -4,8 +4,7 @@ ghost use Rattle.gauge.specs.Obey as Spec;
 use crate::state::Gauge;
 use command::command::Command;
 use command::command::is_reset;
-use configuration::configuration::s0;
-use sample::standby::reset_if;
+use standby::standby::reset_if;
 
 impl Gauge {
     pub(crate) fn obeyed(mut self, command: Command) -> Gauge
@@ -15,7 +14,7 @@ impl Gauge {
         let reset = is_reset(command);
         let charge = self.charge.obeyed(command, configuration, self.host.ar);
         let sample = self.sample.reset_if(reset);
-        let standby = reset_if(reset, s0(configuration), self.standby);
+        let standby = reset_if(reset, configuration, self.standby);
         let flags = self.flags.obeyed(command);
         let host = self.host.obeyed(command, configuration);
         self.charge = charge;

@@ -6,7 +6,6 @@ use crate::state::Gauge;
 use charge::charge::Charge;
 use configuration::configuration::Configuration;
 use configuration::configuration::ilmd;
-use configuration::configuration::s0;
 use flags::flags::Flags;
 use host::host::Host;
 use numbers::little::ten_at;
@@ -14,13 +13,14 @@ use refusals::CONFIGURATION_LENGTH;
 use refusals::ILMD_ZERO;
 use refusals::NONE;
 use sample::sample::Sample;
+use standby::standby::opened_standby;
 
 fn opened(configuration: Configuration) -> Gauge
     ensures { λ r. ⌜ r ≡ Spec.opened configuration ⌝ }
 {
     let charge = Charge::opened(configuration);
     let sample = Sample::none();
-    let standby = s0(configuration);
+    let standby = opened_standby(configuration);
     let flags = Flags::opened(true);
     let host = Host::opened(configuration);
     Gauge {

@@ -11,7 +11,7 @@ pub struct Gauge {
     pub charge: Charge,
     // c, VOLT and TEMP
     pub sample: Sample,
-    // SI
+    // SI, in sixteenths
     pub standby: u16,
     // CI, EDV1 and EDVF
     pub flags: Flags,

@@ -3,7 +3,6 @@ ghost use mathlib.Core.Path.{_≡_};
 ghost use Rattle.gauge.specs.Window as Spec;
 use crate::state::Gauge;
 use charge::charge::Charge;
-use configuration::configuration::s0;
 use configuration::configuration::sd;
 use grains::leak::leak_rate;
 use reached::ending::ending_of;
@@ -13,7 +12,7 @@ use reached::reached::filled_if;
 use reached::reached::flags_ended;
 use sample::current::Current;
 use sample::sample::Sample;
-use sample::standby::averaged;
+use standby::standby::averaged;
 
 impl Gauge {
     // Steps 1 and 2: the leak, and the sum of the counted current.
@@ -47,7 +46,7 @@ impl Gauge {
             voltage,
             temperature,
         };
-        let standby = averaged(s0(configuration), self.standby, current.discharge());
+        let standby = averaged(configuration, self.standby, current.discharge());
         Gauge {
             configuration,
             charge,

@@ -15,11 +15,12 @@ use Rattle.gauge.specs.Opening.{openAnswer, openRefusal, opened}
 use Rattle.gauge.specs.declared.answer.Answer.{Answer}
 use Rattle.gauge.specs.declared.state.Gauge.{Gauge}
 use Rattle.refusals.specs.Refusal as Refusal
+use Rattle.saved.specs.EveryForm.{loadAnswer}
 use Rattle.saved.specs.Form.{newest, savedLength}
-use Rattle.saved.specs.Load.{formFits, loadAnswer, loaded, rejectedAnswer}
+use Rattle.saved.specs.Load.{answerIn, formFits, loaded, rejectedAnswer}
 use Rattle.saved.specs.Save.{putAfter, savedBytes}
 use Rattle.saved.proofs.LoadLaws.{accepted-loads, form-length, misfit-loads, rejected-loads}
-use Rattle.handset.specs.Calls.{callBytes, callNumber, openBytes, openNumber, restCall, windowCall, writeCall}
+use Rattle.handset.specs.Calls.{callBytes, callNumber, convertBytes, convertNumber, openBytes, openNumber, restCall, windowCall, writeCall}
 use Rattle.handset.specs.Keep.{keptBytes, keptNumber}
 
 -- 14 for a gauge value that is rejected
@@ -49,13 +50,13 @@ rested n e p k = cc
 -- ---- a call that moves the gauge
 
 module _ (saved : List ℕ) (call : Gauge → Answer) where
-  rejected : loadAnswer saved ≡ rejectedAnswer → (Refusal.rejected ≡ callNumber saved call) × (saved ≡ callBytes saved call)
+  rejected : answerIn newest saved ≡ rejectedAnswer → (Refusal.rejected ≡ callNumber saved call) × (saved ≡ callBytes saved call)
   unfolding callNumber callBytes rejectedAnswer
   rejected e = (simp e, simp e)
 
   -- the bytes are not in the form
   pub misfit : formFits newest saved ≡ false → (Refusal.rejected ≡ callNumber saved call) × (saved ≡ callBytes saved call)
-  misfit f = rejected (sym (misfit-loads saved f refl))
+  misfit f = rejected (sym (misfit-loads newest saved f refl))
 
   module _ (rejects : Rejects call) (f : formFits newest saved ≡ true) {answer : Answer} (a : answer ≡ call (loaded newest saved)) where
     number-is : answer .number ≡ (call (loaded newest saved)) .number
@@ -68,11 +69,11 @@ module _ (saved : List ℕ) (call : Gauge → Answer) where
       where
         go : (t : Bool) → accepted (loaded newest saved) ≡ t → (answer .number ≡ callNumber saved call) × (saved ≡ callBytes saved call)
         go true e =
-            let l = sym (accepted-loads saved f refl e) in
+            let l = sym (accepted-loads newest saved f refl e) in
             let ne : (call (loaded newest saved)) .number ≡ 0 → ⊥ = λ z. h (number-is ∙ z) in
             (simp (l, number-is), simp (l, ne-eqb _ _ ne))
         go false e =
-            let r = rejected (sym (rejected-loads saved f refl e refl)) in
+            let r = rejected (sym (rejected-loads newest saved f e)) in
             (number-is ∙ rejects (loaded newest saved) e ∙ r .0, r .1)
 
     -- the work is done
@@ -83,7 +84,7 @@ module _ (saved : List ℕ) (call : Gauge → Answer) where
       where
         go : (t : Bool) → accepted (loaded newest saved) ≡ t → (Refusal.none ≡ callNumber saved call) × (after ≡ callBytes saved call)
         go true e =
-            let l = sym (accepted-loads saved f refl e) in
+            let l = sym (accepted-loads newest saved f refl e) in
             let n : (call (loaded newest saved)) .number ≡ 0 = sym number-is ∙ h in
             (simp (l, n), simp (l, n) (s ∙ ap (λ (x : Answer). savedBytes (x .gauge)) a))
         go false e =
@@ -122,4 +123,27 @@ module _ (configuration saved : List ℕ) where
   opens a p q = (
     p ∙ ap (λ (x : Answer). keptNumber x (length saved)) a,
     q ∙ ap (λ (x : Answer). keptBytes x saved) a ∙ bytes-are (eqb (openRefusal configuration) 0) (eqb (length saved) savedLength) refl,
+  )
+
+-- ---- a conversion
+
+module _ (old saved : List ℕ) where
+  -- what is kept of an answer, by its own number and 13
+  kept-is : (answer : Answer)
+      → keptBytes answer saved ≡ cond (eqb (keptNumber answer (length saved)) Refusal.none) (savedBytes (answer .gauge)) saved
+  unfolding keptNumber keptBytes putAfter
+  kept-is answer = go (eqb (answer .number) 0) (eqb (length saved) savedLength) refl
+    where
+      go : (t u : Bool) → eqb (answer .number) 0 ≡ t
+          → cond t (cond u (savedBytes (answer .gauge)) saved) saved ≡ cond (eqb (cond t (cond u 0 13) (answer .number)) 0) (savedBytes (answer .gauge)) saved
+      go true true e = refl
+      go true false e = refl
+      go false u e = simp e
+
+  pub converts : {answer : Answer} {r : ℕ} {after : List ℕ} → answer ≡ loadAnswer old → r ≡ keptNumber answer (length saved)
+      → after ≡ keptBytes answer saved → (r ≡ convertNumber old (length saved)) × (after ≡ convertBytes old saved)
+  unfolding keptNumber convertNumber convertBytes
+  converts a p q = (
+    p ∙ ap (λ (x : Answer). keptNumber x (length saved)) a,
+    q ∙ ap (λ (x : Answer). keptBytes x saved) a ∙ kept-is (loadAnswer old),
   )

@@ -17,7 +17,7 @@ module _ (saved : List ℕ) (address count place : ℕ) (reply : List ℕ) where
   pub misfit-read : formFits newest saved ≡ false
       → (Refusal.rejected ≡ readNumber saved address count place (length reply)) × (reply ≡ readReply saved address count place reply)
   unfolding readNumber readReply rejectedAnswer
-  misfit-read f = let l = sym (misfit-loads saved f refl) in (simp l, simp l)
+  misfit-read f = let l = sym (misfit-loads newest saved f refl) in (simp l, simp l)
 
   read-is : formFits newest saved ≡ true
       → (readRefusal (loaded newest saved) address count place (length reply) ≡ readNumber saved address count place (length reply))
@@ -28,8 +28,8 @@ module _ (saved : List ℕ) (address count place : ℕ) (reply : List ℕ) where
       go : (t : Bool) → accepted (loaded newest saved) ≡ t
           → (readRefusal (loaded newest saved) address count place (length reply) ≡ readNumber saved address count place (length reply))
           × (replyAfter (loaded newest saved) address count place reply ≡ readReply saved address count place reply)
-      go true e = let l = sym (accepted-loads saved f refl e) in (simp l, simp l)
-      go false e = let l = sym (rejected-loads saved f refl e refl) in (simp (l, e), simp (l, e))
+      go true e = let l = sym (accepted-loads newest saved f refl e) in (simp l, simp l)
+      go false e = let l = sym (rejected-loads newest saved f e) in (simp (l, e), simp (l, e))
 
   pub read-done : {g : Gauge} {r : ℕ} {after : List ℕ} → formFits newest saved ≡ true → g ≡ loaded newest saved
       → r ≡ readRefusal g address count place (length reply) → after ≡ replyAfter g address count place reply

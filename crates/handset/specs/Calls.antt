@@ -1,5 +1,6 @@
 -- The calls from C on the saved bytes: the number and every byte of every lent buffer. 14 is tested first, success is 0, and a
--- refusal changes no byte. Definitions only; assumes nothing.
+-- refusal changes no byte. They take the newest form alone, "older ones being 14 there" (A1 of paper 02), but for the conversion, which reads
+-- every form. Definitions only; assumes nothing.
 use mathlib.Core.Bool.{cond}
 use mathlib.Core.List.{List}
 use Prim.Native.Nat.{ℕ}
@@ -13,17 +14,19 @@ use Rattle.gauge.specs.declared.state.Gauge.{Gauge}
 use Rattle.refusals.specs.Refusal as Refusal
 use Rattle.refusals.specs.Refusal.{orElse}
 use Rattle.registers.specs.Reading.{readRefusal, replyAfter}
-use Rattle.saved.specs.Load.{loadAnswer}
+use Rattle.saved.specs.EveryForm.{loadAnswer}
+use Rattle.saved.specs.Form.{newest}
+use Rattle.saved.specs.Load.{answerIn}
 use Rattle.saved.specs.Save.{lengthRefusal, savedBytes}
 
 -- ---- a call that moves the gauge: "On success window and write leave the new gauge saved in the same bytes."
 
 -- 14, "tested first", then the call's own number
 unfoldable pub callNumber : List ℕ → (Gauge → Answer) → ℕ
-callNumber saved call = orElse ((loadAnswer saved) .number) ((call ((loadAnswer saved) .gauge)) .number)
+callNumber saved call = orElse ((answerIn newest saved) .number) ((call ((answerIn newest saved) .gauge)) .number)
 
 unfoldable pub callBytes : List ℕ → (Gauge → Answer) → List ℕ
-callBytes saved call = cond (eqb (callNumber saved call) Refusal.none) (savedBytes ((call ((loadAnswer saved) .gauge)) .gauge)) saved
+callBytes saved call = cond (eqb (callNumber saved call) Refusal.none) (savedBytes ((call ((answerIn newest saved) .gauge)) .gauge)) saved
 
 abbrev pub windowCall : ℤ → ℤ → ℤ → Gauge → Answer
 windowCall a v t g = windowAnswer g a v t
@@ -42,12 +45,20 @@ openNumber configuration bufferLength = orElse (openRefusal configuration) (leng
 unfoldable pub openBytes : List ℕ → List ℕ → List ℕ
 openBytes configuration saved = cond (eqb (openNumber configuration (length saved)) Refusal.none) (savedBytes (opened configuration)) saved
 
+-- ---- a conversion into a lent buffer, so that "a handset updated mid-drive goes on": 14, 13
+
+unfoldable pub convertNumber : List ℕ → ℕ → ℕ
+convertNumber old bufferLength = orElse ((loadAnswer old) .number) (lengthRefusal bufferLength)
+
+unfoldable pub convertBytes : List ℕ → List ℕ → List ℕ
+convertBytes old saved = cond (eqb (convertNumber old (length saved)) Refusal.none) (savedBytes ((loadAnswer old) .gauge)) saved
+
 -- ---- a read: 14, 12, 13
 
 unfoldable pub readNumber : List ℕ → ℕ → ℕ → ℕ → ℕ → ℕ
 readNumber saved address count place replyLength =
-    orElse ((loadAnswer saved) .number) (readRefusal ((loadAnswer saved) .gauge) address count place replyLength)
+    orElse ((answerIn newest saved) .number) (readRefusal ((answerIn newest saved) .gauge) address count place replyLength)
 
 unfoldable pub readReply : List ℕ → ℕ → ℕ → ℕ → List ℕ → List ℕ
 readReply saved address count place reply =
-    cond (eqb ((loadAnswer saved) .number) Refusal.none) (replyAfter ((loadAnswer saved) .gauge) address count place reply) reply
+    cond (eqb ((answerIn newest saved) .number) Refusal.none) (replyAfter ((answerIn newest saved) .gauge) address count place reply) reply

@@ -10,6 +10,7 @@ use gauge::opening::open;
 use refusals::NONE;
 use refusals::REJECTED;
 use registers::reading::read;
+use saved::every_form::load;
 use saved::load::decoded;
 use saved::load::form_fits;
 
@@ -20,6 +21,16 @@ pub extern "C" fn gauge_open(configuration: &[u8], saved: &mut [u8]) -> u32
     ensures bytes { λ _. ⌜ now (saved .exit) ≡ Spec.openBytes (now (configuration .entry)) (now (saved .entry)) ⌝ }
 {
     let answer = open(configuration);
+    keep(answer, saved)
+}
+
+// Bytes of any form in, the newest out. Refuses 14, 13.
+#[no_mangle]
+pub extern "C" fn gauge_convert(old: &[u8], saved: &mut [u8]) -> u32
+    ensures number { λ r. ⌜ r ≡ Spec.convertNumber (now (old .entry)) (length (now (saved .entry))) ⌝ }
+    ensures bytes { λ _. ⌜ now (saved .exit) ≡ Spec.convertBytes (now (old .entry)) (now (saved .entry)) ⌝ }
+{
+    let answer = load(old);
     keep(answer, saved)
 }
 

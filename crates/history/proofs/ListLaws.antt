@@ -34,7 +34,8 @@ use Rattle.history.proofs.BesideLaws.{Beside, rest-beside, window-besid
 use Rattle.reached.proofs.ChargeKept.{opened-bounded}
 use Rattle.host.proofs.HostKept.{opened-fits}
 use Rattle.history.proofs.NumberLaws.{number-most, numbers-alike}
-use Rattle.sample.proofs.SampleKept.{no-sample, opened-standby}
+use Rattle.sample.proofs.SampleKept.{no-sample}
+use Rattle.standby.proofs.StandbyKept.{opened-standby}
 use Rattle.history.proofs.Standing.{Standing, standing, taken}
 use Rattle.history.proofs.StayLaws.{call-stands}
 use Rattle.history.proofs.Tracking.{fixed-is}

@@ -14,7 +14,7 @@ use Rattle.gauge.proofs.AcceptedLaws.{Sound, sound, sound-accepted}
 use Rattle.grains.specs.Leak.{leakRate}
 use Rattle.grains.proofs.LeakLaws.{leak-rate-within}
 use Rattle.sample.specs.Limits.{leastTemperature, leastVoltage, mostTemperature, mostVoltage}
-use Rattle.sample.specs.Standby.{standbyAccepted}
+use Rattle.standby.specs.Standby.{standbyAccepted}
 use Rattle.history.specs.Claim.{Taken}
 use Rattle.reached.proofs.ChargeKept.{Bounded}
 use Rattle.host.proofs.HostKept.{HostFits}
@@ -45,7 +45,7 @@ module _ (g : Gauge) where
       let w = s .sound .charge .within in
       let d = s .sound .charge .run .within in
       let i = s .ten .bytes 3 in
-      let n = leb-true (g .standby) (2 * s0 (g .configuration)) (s .sound .standby) in
+      let n = leb-true (g .standby) (32 * s0 (g .configuration)) (s .sound .standby) in
       let a = s .host .ar in
       record {
         fits = record {

@@ -26,7 +26,6 @@ use Rattle.reached.specs.Reached.{chargeReached, reachedBy}
 use Rattle.sample.specs.Current.{counted, discharge}
 use Rattle.sample.specs.Range.{current, temperature, temperatureInRange, voltage}
 use Rattle.sample.specs.Sample.{sampleReset}
-use Rattle.sample.specs.Standby.{standbyAccepted, standbyReset}
 use Rattle.sample.proofs.SampleLaws.{SampleSound}
 use Rattle.history.specs.After.{gaugeAfter}
 use Rattle.history.specs.Call.{Call}
@@ -36,7 +35,8 @@ use Rattle.history.proofs.AnswerLaws.{InRange, not-rejected, rest-in-ra
 use Rattle.reached.proofs.ChargeKept.{command-bounded, rest-bounded, window-bounded}
 use Rattle.command.proofs.DecisionLaws.{wrtlmd-above}
 use Rattle.host.proofs.HostKept.{full-fits, obeyed-fits, stored-fits}
-use Rattle.sample.proofs.SampleKept.{averaged-kept, counted-within, no-sample, opened-standby, rest-sample, window-sample}
+use Rattle.sample.proofs.SampleKept.{counted-within, no-sample, rest-sample, window-sample}
+use Rattle.standby.proofs.StandbyKept.{averaged-kept, reset-kept}
 use Rattle.history.proofs.Standing.{Standing, bounded, opens, rate-low, standing, taken}
 
 -- ---- each call's work
@@ -99,12 +99,6 @@ module _ (g : Gauge) (s : Standing g) where
   reset-sample true = no-sample (dmf (g .configuration))
   reset-sample false = s .sound .sample
 
-  reset-standby : (t : Bool)
-      → standbyAccepted (s0 (g .configuration)) (standbyReset t (s0 (g .configuration)) (g .standby)) ≡ true
-  unfolding standbyReset
-  reset-standby true = opened-standby (s0 (g .configuration))
-  reset-standby false = s .sound .standby
-
   obeyed-stands : (command : Command) → (command ≡ Wrtlmd → 0 < g .host .ar) → Standing (obeyed command g)
   unfolding obeyed
   obeyed-stands command above =
@@ -118,7 +112,7 @@ module _ (g : Gauge) (s : Standing g) where
         sound = record {
           ilmd = s .sound .ilmd;
           charge = b .sound;
-          standby = reset-standby (isReset command);
+          standby = reset-kept (isReset command) (s0 c) (g .standby) (s .sound .standby);
           sample = reset-sample (isReset command);
         };
         lmd = b .lmd;

@@ -5,7 +5,7 @@ use Rattle.compensation.specs.Compensation.{compensated, dcmp, minutes}
 use Rattle.gauge.specs.declared.state.Gauge.{Gauge}
 use Rattle.sample.specs.Current.{charge, discharge}
 use Rattle.registers.specs.Times.{artte, stte, tte, ttf}
-use Rattle.registers.specs.Values.{cac, nac}
+use Rattle.registers.specs.Values.{cac, nac, si}
 
 module _ (g : Gauge) where
   pub tte-is : {n i r : ℕ} → n ≡ cac g → i ≡ discharge (g .sample .current) → r ≡ minutes (60 * n) i → r ≡ tte g
@@ -19,9 +19,9 @@ module _ (g : Gauge) where
       ∙ ap (λ (k : ℕ). minutes (90 * (g .charge .lmd - k)) i) p
       ∙ ap (minutes (90 * (g .charge .lmd - nac g))) q
 
-  pub stte-is : {n r : ℕ} → n ≡ nac g → r ≡ minutes (60 * n) (g .standby) → r ≡ stte g
+  pub stte-is : {n i r : ℕ} → n ≡ nac g → i ≡ si g → r ≡ minutes (60 * n) i → r ≡ stte g
   unfolding stte
-  stte-is p e = e ∙ ap (λ (k : ℕ). minutes (60 * k) (g .standby)) p
+  stte-is {i = i} p q e = e ∙ ap (λ (k : ℕ). minutes (60 * k) i) p ∙ ap (minutes (60 * nac g)) q
 
   pub artte-is : {d n i r : ℕ} → d ≡ dcmp (g .configuration) (g .host .ar) (g .sample .temperature) → n ≡ nac g → i ≡ compensated n d
       → r ≡ minutes (60 * i) (g .host .ar) → r ≡ artte g

@@ -82,13 +82,13 @@ module _ (g : Gauge) (b : List ℕ) {b₁ b₂ b₃ b₄ : List ℕ} where
       ∙ ap (set (set b 0x0A (byteAt (Values.flags g) 0)) 0x0B) (byte-shown q k) in
       then-pair 0x12 fcac (then-pair 0x10 cac (then-pair 0x0E lmd (then-pair 0x0C nac bytes r) refl) s) t
 
-pub currents-stored : (g : Gauge) (b : List ℕ) {b₁ b₂ b₃ b₄ b₅ : List ℕ} {tte ttf stte : ℕ}
+pub currents-stored : (g : Gauge) (b : List ℕ) {b₁ b₂ b₃ b₄ b₅ : List ℕ} {tte ttf si stte : ℕ}
     → b₁ ≡ withPair 0x14 (g .sample .current .magnitude) b → tte ≡ Times.tte g → b₂ ≡ withPair 0x16 tte b₁ → ttf ≡ Times.ttf g
-    → b₃ ≡ withPair 0x18 ttf b₂ → b₄ ≡ withPair 0x1A (g .standby) b₃ → stte ≡ Times.stte g → b₅ ≡ withPair 0x1C stte b₄
+    → b₃ ≡ withPair 0x18 ttf b₂ → si ≡ Values.si g → b₄ ≡ withPair 0x1A si b₃ → stte ≡ Times.stte g → b₅ ≡ withPair 0x1C stte b₄
     → b₅ ≡ sets b 0x14 (registersFrom g 0x14 10)
 unfolding registersFrom register lookUp rows
-currents-stored g b iav p tte q ttf si r stte =
-    then-pair 0x1C stte (then-pair 0x1A si (then-pair 0x18 ttf (then-pair 0x16 tte iav p) q) refl) r
+currents-stored g b iav p tte q ttf w si r stte =
+    then-pair 0x1C stte (then-pair 0x1A si (then-pair 0x18 ttf (then-pair 0x16 tte iav p) q) w) r
 
 -- ---- all of it
 

@@ -41,7 +41,7 @@ rows g =
     ∷ row 0x14 2 (g .sample .current .magnitude)  -- IAV
     ∷ row 0x16 2 (Times.tte g)  -- TTE
     ∷ row 0x18 2 (Times.ttf g)  -- TTF
-    ∷ row 0x1A 2 (g .standby)  -- SI
+    ∷ row 0x1A 2 (Values.si g)  -- SI
     ∷ row 0x1C 2 (Times.stte g)  -- STTE
     ∷ row 0x20 2 (Configuration.e1 (g .configuration))  -- CEDV (= E1)
     ∷ row 0x76 1 (Configuration.ilmd (g .configuration))  -- ILMD

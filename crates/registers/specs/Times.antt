@@ -4,7 +4,7 @@ use Prim.Native.Nat.{ℕ, _-_, _*_}
 use Rattle.compensation.specs.Compensation.{compensated, dcmp, minutes}
 use Rattle.gauge.specs.declared.state.Gauge.{Gauge}
 use Rattle.sample.specs.Current.{charge, discharge}
-use Rattle.registers.specs.Values.{cac, nac}
+use Rattle.registers.specs.Values.{cac, nac, si}
 
 -- "TTE = 60 × CAC / IAV if c < 0"
 unfoldable pub tte : Gauge → ℕ
@@ -14,9 +14,9 @@ tte g = minutes (60 * cac g) (discharge (g .sample .current))
 unfoldable pub ttf : Gauge → ℕ
 ttf g = minutes (90 * (g .charge .lmd - nac g)) (charge (g .sample .current))
 
--- "STTE = 60 × NAC / SI"
+-- "STTE = 60 × NAC / SI", and "STTE divides by that", the SI shown (A1 of paper 02)
 unfoldable pub stte : Gauge → ℕ
-stte g = minutes (60 * nac g) (g .standby)
+stte g = minutes (60 * nac g) (si g)
 
 -- "ARTTE = 60 × max(0, NAC − DCMP(AR)) / AR"
 unfoldable pub artte : Gauge → ℕ

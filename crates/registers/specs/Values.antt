@@ -1,10 +1,11 @@
--- "Registers" of paper 01: the flags and the capacities that are shown. Definitions only; assumes nothing.
+-- "Registers" of paper 01: the flags, the capacities and the standby current that are shown. Definitions only; assumes nothing.
 use Prim.Native.Nat.{ℕ, _*_, _/_}
 use Rattle.compensation.specs.Compensation.{compensated, dcmp}
 use Rattle.flags.specs.Byte.{flagsByte}
 use Rattle.gauge.specs.declared.state.Gauge.{Gauge}
 use Rattle.grains.specs.Grains as Grains
 use Rattle.sample.specs.Current.{discharge}
+use Rattle.standby.specs.Standby.{shown}
 
 -- "NAC = floor(h / G)"
 abbrev pub nac : Gauge → ℕ
@@ -28,3 +29,7 @@ cac g = compensated (nac g) (reduction g)
 
 unfoldable pub fcac : Gauge → ℕ
 fcac g = compensated (g .charge .lmd) (reduction g)
+
+-- SI: "The register shows the ceiling of a sixteenth of it" (A1 of paper 02)
+abbrev pub si : Gauge → ℕ
+si g = shown (g .standby)

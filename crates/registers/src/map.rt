@@ -13,6 +13,7 @@ use crate::values::cac;
 use crate::values::fcac;
 use crate::values::nac;
 use crate::values::rsoc;
+use crate::values::si;
 use configuration::configuration::Configuration;
 use configuration::configuration::e1;
 use flags::byte::flags_byte;
@@ -79,7 +80,7 @@ fn current_pair(gauge: Gauge, pair: u32) -> u16
         return ttf(gauge);
     }
     if pair == 13 {
-        return gauge.standby;
+        return si(gauge);
     }
     stte(gauge)
 }

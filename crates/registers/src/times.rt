@@ -5,6 +5,7 @@ ghost use Rattle.gauge.specs.Accepted.{accepted};
 ghost use Rattle.registers.specs.Times as Spec;
 use crate::values::cac;
 use crate::values::nac;
+use crate::values::si;
 use compensation::compensation::compensated;
 use compensation::compensation::dcmp;
 use compensation::compensation::minutes;
@@ -29,7 +30,7 @@ pub(crate) fn stte(gauge: Gauge) -> u16
     requires { ⌜ accepted gauge ≡ true ⌝ }
     ensures { λ r. ⌜ r ≡ Spec.stte gauge ⌝ }
 {
-    minutes(60 * nac(gauge) as u32, gauge.standby)
+    minutes(60 * nac(gauge) as u32, si(gauge))
 }
 
 pub(crate) fn artte(gauge: Gauge) -> u16

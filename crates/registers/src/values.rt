@@ -1,4 +1,4 @@
-// The capacities that are shown, by "Registers". A gauge that is accepted holds at most LMD counts, so NAC is a pair of bytes.
+// The capacities and the standby current that are shown, by "Registers". A gauge that is accepted holds at most LMD counts, so NAC is a pair of bytes.
 ghost use mathlib.Core.Bool.{true};
 ghost use mathlib.Core.Path.{_≡_};
 ghost use Prim.Native.Nat.{_≤_};
@@ -7,6 +7,7 @@ ghost use Rattle.registers.specs.Values as Spec;
 use compensation::compensation::compensated;
 use compensation::compensation::dcmp;
 use gauge::state::Gauge;
+use standby::standby::shown;
 
 pub(crate) fn nac(gauge: Gauge) -> u16
     requires { ⌜ accepted gauge ≡ true ⌝ }
@@ -46,4 +47,11 @@ pub(crate) fn fcac(gauge: Gauge) -> u16
     ensures { λ r. ⌜ r ≡ Spec.fcac gauge ⌝ }
 {
     compensated(gauge.charge.lmd, reduction(gauge))
+}
+
+// SI as it is shown, units.
+pub(crate) fn si(gauge: Gauge) -> u16
+    ensures { λ r. ⌜ r ≡ Spec.si gauge ⌝ }
+{
+    shown(gauge.standby)
 }

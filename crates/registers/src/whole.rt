@@ -15,6 +15,7 @@ use crate::values::cac;
 use crate::values::fcac;
 use crate::values::nac;
 use crate::values::rsoc;
+use crate::values::si;
 use configuration::configuration::e1;
 use flags::byte::flags_byte;
 use gauge::state::Gauge;
@@ -77,7 +78,7 @@ fn put_currents(gauge: Gauge, bytes: &mut [u8; REGISTER_COUNT])
     put_pair(bytes, 0x14, gauge.sample.current.magnitude);
     put_pair(bytes, 0x16, tte(gauge));
     put_pair(bytes, 0x18, ttf(gauge));
-    put_pair(bytes, 0x1A, gauge.standby);
+    put_pair(bytes, 0x1A, si(gauge));
     put_pair(bytes, 0x1C, stte(gauge));
 }
 

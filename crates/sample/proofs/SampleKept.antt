@@ -1,19 +1,18 @@
--- The sample that a window or a rest leaves is one that 14 does not refuse: its values are in range, the counted current is 0 or beyond
--- DMF, and the average of two numbers up to 2 × S0 is one. Assumes nothing.
+-- The sample that a window or a rest leaves is one that 14 does not refuse: its values are in range, and the counted current is 0 or beyond
+-- DMF. Assumes nothing.
 use mathlib.Core.Bool.{Bool, true, false, not, _&&_, _||_, cond}
 use mathlib.Core.Path.{_≡_, refl}
-use Prim.Native.Nat.{ℕ, _+_, _*_, _/_, _≤_, _<_}
+use Prim.Native.Nat.{ℕ, _≤_, _<_}
 use native.Mathlib.Omega.{arith}
 use lib.Dec.{leb, ltb, eqb}
 use lib.IntN.{ℤ}
-use borrow.Author.Tests.{leb-true, leb-false, le-leb, lt-ltb, ne-eqb, eqb-true}
+use borrow.Author.Tests.{leb-true, leb-false, lt-ltb, ne-eqb, eqb-true}
 use Rattle.numbers.specs.Signed.{magnitude, negative}
 use Rattle.numbers.proofs.BoolLaws.{and-right}
 use Rattle.sample.specs.Current.{counted, noCurrent}
 use Rattle.sample.specs.Limits.{leastTemperature, leastVoltage, mostCurrent, mostTemperature, mostVoltage, within, zeroOrWithin}
 use Rattle.sample.specs.Range.{between, current, currentInRange, currentOf, temperature, temperatureInRange, valueBetween, voltage, voltageInRange}
 use Rattle.sample.specs.Sample.{currentAccepted, noSample, sampleRested}
-use Rattle.sample.specs.Standby.{averaged, standbyAccepted}
 use Rattle.sample.specs.declared.current.Current.{Current}
 use Rattle.sample.specs.declared.sample.Sample.{Sample}
 use Rattle.sample.proofs.SampleLaws.{SampleSound}
@@ -92,24 +91,3 @@ value-fits least most n h = go (eqb n 0) refl
     go : (t : Bool) → eqb n 0 ≡ t → (t || within least most n) ≡ true → n < 65_536
     go true p e = let z = eqb-true n 0 p in omega arith
     go false p e = let m = leb-true n most (and-right (leb least n) (leb n most) e) in omega arith
-
--- ---- SI
-
-pub averaged-kept : (s0 si iav : ℕ) → standbyAccepted s0 si ≡ true → standbyAccepted s0 (averaged s0 si iav) ≡ true
-unfolding averaged standbyAccepted
-averaged-kept s0 si iav e = go (not (eqb iav 0)) (leb iav (2 * s0)) refl
-  where
-    h : si ≤ 2 * s0
-    h = leb-true si (2 * s0) e
-
-    go : (p q : Bool) → leb iav (2 * s0) ≡ q → leb (cond (p && q) ((15 * si + iav) / 16) si) (2 * s0) ≡ true
-    go true true f =
-        let k = leb-true iav (2 * s0) f in
-        let l = h in
-        le-leb ((15 * si + iav) / 16) (2 * s0) (omega arith)
-    go true false f = e
-    go false q f = e
-
-pub opened-standby : (s0 : ℕ) → standbyAccepted s0 s0 ≡ true
-unfolding standbyAccepted
-opened-standby s0 = le-leb s0 (2 * s0) (omega arith)

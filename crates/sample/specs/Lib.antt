@@ -2,4 +2,3 @@ pub mod Current
 pub mod Limits
 pub mod Range
 pub mod Sample
-pub mod Standby

@@ -14,33 +14,28 @@ use Rattle.gauge.specs.declared.state.Gauge.{Gauge}
 use Rattle.numbers.proofs.LittleLaws.{read-back, valueOf}
 use Rattle.numbers.specs.Little.{bytesAt, little, numberAt}
 use Rattle.saved.proofs.PutLaws.{little-length, sets-append}
-use Rattle.saved.specs.Form.{Ar, Configuration, Current, Dcr, Field, Flags, FormNumber, Held, Lmd, Mode, Name, Standby, Temperature, Voltage, lengthOf, nameNumber, placeOf, sameName, widthOf}
+use Rattle.saved.specs.Form.{Ar, Configuration, Current, Dcr, Flags, FormNumber, Held, Lmd, Mode, Sixteenths, Standby, Temperature, Voltage}
+use Rattle.saved.specs.Form.{Field, Name, has, lengthOf, nameNumber, placeOf, sameName, widthOf}
 use Rattle.saved.specs.Save.{fieldBytes, fieldsBytes}
 
 -- ---- names
 
+names : List Name
+names =
+    FormNumber ∷ Configuration ∷ Held ∷ Dcr ∷ Lmd ∷ Standby ∷ Sixteenths ∷ Current ∷ Voltage ∷ Temperature ∷ Ar ∷ Mode ∷ Flags ∷ []
+
 nameOf : ℕ → Name
-nameOf zero = FormNumber
-nameOf (suc zero) = Configuration
-nameOf (suc (suc zero)) = Held
-nameOf (suc (suc (suc zero))) = Dcr
-nameOf (suc (suc (suc (suc zero)))) = Lmd
-nameOf (suc (suc (suc (suc (suc zero))))) = Standby
-nameOf (suc (suc (suc (suc (suc (suc zero)))))) = Current
-nameOf (suc (suc (suc (suc (suc (suc (suc zero))))))) = Voltage
-nameOf (suc (suc (suc (suc (suc (suc (suc (suc zero)))))))) = Temperature
-nameOf (suc (suc (suc (suc (suc (suc (suc (suc (suc zero))))))))) = Ar
-nameOf (suc (suc (suc (suc (suc (suc (suc (suc (suc (suc zero)))))))))) = Mode
-nameOf (suc (suc (suc (suc (suc (suc (suc (suc (suc (suc (suc n))))))))))) = Flags
+nameOf n = getD names n FormNumber
 
 name-back : (n : Name) → nameOf (nameNumber n) ≡ n
-unfolding nameOf
+unfolding nameOf names
 name-back FormNumber = refl
 name-back Configuration = refl
 name-back Held = refl
 name-back Dcr = refl
 name-back Lmd = refl
 name-back Standby = refl
+name-back Sixteenths = refl
 name-back Current = refl
 name-back Voltage = refl
 name-back Temperature = refl
@@ -50,11 +45,6 @@ name-back Flags = refl
 
 same-is : (m n : Name) → sameName m n ≡ true → m ≡ n
 same-is m n e = sym (name-back m) ∙ ap nameOf (eqb-true (nameNumber m) (nameNumber n) e) ∙ name-back n
-
--- a form has a field of that name
-abbrev pub has : Name → List Field → Bool
-has n [] = false
-has n (f ∷ fs) = cond (sameName n (f .name)) true (has n fs)
 
 -- ---- bytes of a list
 
@@ -107,6 +97,7 @@ module _ (form : ℕ) (g : Gauge) where
   field-length Dcr width = little-length width _
   field-length Lmd width = little-length width _
   field-length Standby width = little-length width _
+  field-length Sixteenths width = little-length width _
   field-length Current width = little-length width _
   field-length Voltage width = little-length width _
   field-length Temperature width = little-length width _

@@ -1,3 +1,4 @@
+pub mod EveryFormLaws
 pub mod FormLaws
 pub mod LoadLaws
 pub mod PutLaws

@@ -1,8 +1,10 @@
--- The parts of a gauge read from bytes of form 1, and the tests that bytes pass, in their order: told of plain bytes. Assumes nothing.
-use mathlib.Core.Bool.{Bool, true, false, _&&_}
+-- The parts of a gauge read from bytes of the newest form, and the tests that bytes of a form pass, in their order: told of plain bytes. Assumes
+-- nothing.
+use mathlib.Core.Bool.{Bool, true, false, _&&_, cond}
 use mathlib.Core.List.{List, []}
-use mathlib.Core.Path.{_≡_, sym, ap, _∙_}
+use mathlib.Core.Path.{_≡_, refl, sym, ap, _∙_}
 use Prim.Native.Nat.{ℕ}
+use native.Mathlib.Omega.{arith}
 use lib.Dec.{eqb}
 use lib.ListN.{getD, length, replicate}
 use borrow.Author.Tests.{eq-eqb, eqb-true, ne-eqb}
@@ -19,9 +21,10 @@ use Rattle.refusals.specs.Refusal as Refusal
 use Rattle.sample.specs.declared.current.Current as Amount
 use Rattle.sample.specs.declared.sample.Sample.{Sample}
 use Rattle.saved.proofs.FormLaws.{one-is}
-use Rattle.saved.specs.Form.{Ar, Configuration, Current, Dcr, Flags, FormNumber, Held, Lmd, Mode, Standby, Temperature, Voltage}
-use Rattle.saved.specs.Form.{Form, bytesOf, form1, lengthOf, newest, numberOf, placeOf, savedLength}
-use Rattle.saved.specs.Load.{formFits, decodedGauge, loadAnswer, loadable, loaded, loadedCharge, loadedHost, loadedSample, ofLength, rejectedAnswer}
+use Rattle.saved.specs.Form.{Ar, Configuration, Current, Dcr, Flags, FormNumber, Held, Lmd, Mode, Sixteenths, Temperature, Voltage}
+use Rattle.saved.specs.Form.{Form, bytesOf, lengthOf, newest, numberOf, placeOf, savedLength}
+use Rattle.saved.specs.Load.{acceptedAnswer, answerIn, decodedGauge, fitsAs, formFits, loaded, loadedCharge, loadedHost, loadedSample}
+use Rattle.saved.specs.Load.{ofLength, rejectedAnswer, standbyFits}
 use Rattle.saved.specs.Save.{gaugeOf}
 use Rattle.saved.specs.Signed.{currentOf}
 
@@ -53,53 +56,56 @@ gauge-alike o p q r t w = cc
 
 module _ (bytes : List ℕ) where
   -- FLAGS read as a byte
-  flags-is : {b : ℕ} → b ≡ getD bytes (placeOf Flags (form1 .fields)) 0 → b ≡ numberOf Flags form1 bytes
-  flags-is e = e ∙ sym (one-is (placeOf Flags (form1 .fields)) bytes)
+  flags-is : {b : ℕ} → b ≡ getD bytes (placeOf Flags (newest .fields)) 0 → b ≡ numberOf Flags newest bytes
+  flags-is e = e ∙ sym (one-is (placeOf Flags (newest .fields)) bytes)
 
-  pub charge-is : {h d l b : ℕ} {v : Bool} → h ≡ numberOf Held form1 bytes → d ≡ numberOf Dcr form1 bytes → l ≡ numberOf Lmd form1 bytes
-      → b ≡ getD bytes (placeOf Flags (form1 .fields)) 0 → v ≡ vdqOf b → chargeOf h l v d ≡ loadedCharge form1 bytes
+  pub charge-is : {h d l b : ℕ} {v : Bool} → h ≡ numberOf Held newest bytes → d ≡ numberOf Dcr newest bytes → l ≡ numberOf Lmd newest bytes
+      → b ≡ getD bytes (placeOf Flags (newest .fields)) 0 → v ≡ vdqOf b → chargeOf h l v d ≡ loadedCharge newest bytes
   unfolding loadedCharge
   charge-is p q r s t = charge-alike p r (t ∙ ap vdqOf (flags-is s)) q
 
-  pub sample-is : {p v t : ℕ} {c : Amount.Current} → p ≡ numberOf Current form1 bytes → c ≡ currentOf p → v ≡ numberOf Voltage form1 bytes
-      → t ≡ numberOf Temperature form1 bytes → sampleOf c v t ≡ loadedSample form1 bytes
+  pub sample-is : {p v t : ℕ} {c : Amount.Current} → p ≡ numberOf Current newest bytes → c ≡ currentOf p → v ≡ numberOf Voltage newest bytes
+      → t ≡ numberOf Temperature newest bytes → sampleOf c v t ≡ loadedSample newest bytes
   unfolding loadedSample
   sample-is p q r s = sample-alike (q ∙ ap currentOf p) r s
 
-  pub host-is : {m a : ℕ} → m ≡ getD bytes (placeOf Mode (form1 .fields)) 0 → a ≡ numberOf Ar form1 bytes → hostOf m a ≡ loadedHost form1 bytes
+  pub host-is : {m a : ℕ} → m ≡ getD bytes (placeOf Mode (newest .fields)) 0 → a ≡ numberOf Ar newest bytes → hostOf m a ≡ loadedHost newest bytes
   unfolding loadedHost
-  host-is p q = host-alike (p ∙ sym (one-is (placeOf Mode (form1 .fields)) bytes)) q
+  host-is p q = host-alike (p ∙ sym (one-is (placeOf Mode (newest .fields)) bytes)) q
 
-  pub gauge-is : {c : List ℕ} {x : Charge} {s : Sample} {i b : ℕ} {f : Flag.Flags} {h : Host} → c ≡ bytesOf Configuration form1 bytes
-      → x ≡ loadedCharge form1 bytes → s ≡ loadedSample form1 bytes → i ≡ numberOf Standby form1 bytes
-      → b ≡ getD bytes (placeOf Flags (form1 .fields)) 0 → f ≡ flagsOf b → h ≡ loadedHost form1 bytes → gaugeOf c x s i f h ≡ loaded form1 bytes
+  pub gauge-is : {c : List ℕ} {x : Charge} {s : Sample} {i b : ℕ} {f : Flag.Flags} {h : Host} → c ≡ bytesOf Configuration newest bytes
+      → x ≡ loadedCharge newest bytes → s ≡ loadedSample newest bytes → i ≡ numberOf Sixteenths newest bytes
+      → b ≡ getD bytes (placeOf Flags (newest .fields)) 0 → f ≡ flagsOf b → h ≡ loadedHost newest bytes → gaugeOf c x s i f h ≡ loaded newest bytes
   unfolding loaded
   gauge-is o p q r s t w = gauge-alike o p q r (t ∙ ap flagsOf (flags-is s)) w
 
-  -- ---- the tests of the form
+  -- ---- the tests of a length and a number
 
-  pub not-length : (length bytes ≡ lengthOf (form1 .fields) → ⊥) → false ≡ formFits form1 bytes
+  module _ (number long : ℕ) where
+    pub not-length : (length bytes ≡ long → ⊥) → false ≡ fitsAs number long newest bytes
+    not-length h = simp (ne-eqb (length bytes) long h)
+
+    pub not-form : {b : ℕ} → length bytes ≡ long → b ≡ getD bytes (placeOf FormNumber (newest .fields)) 0 → (b ≡ number → ⊥)
+        → false ≡ fitsAs number long newest bytes
+    not-form {b} l e h =
+        let is : b ≡ numberOf FormNumber newest bytes = e ∙ sym (one-is (placeOf FormNumber (newest .fields)) bytes) in
+        simp (eq-eqb (length bytes) long l, ne-eqb (numberOf FormNumber newest bytes) number (λ z. h (is ∙ z)))
+
+    pub flags-tested : {b p d : ℕ} {c : Amount.Current} {r : Bool} → length bytes ≡ long → b ≡ getD bytes (placeOf FormNumber (newest .fields)) 0
+        → b ≡ number → p ≡ numberOf Current newest bytes → c ≡ currentOf p → d ≡ getD bytes (placeOf Flags (newest .fields)) 0
+        → r ≡ flagsFit d (c .charging) → r ≡ fitsAs number long newest bytes
+    flags-tested {d = d} l e n p q s t =
+        let is : numberOf FormNumber newest bytes ≡ number = one-is (placeOf FormNumber (newest .fields)) bytes ∙ sym e ∙ n in
+        simp (eq-eqb (length bytes) long l, eq-eqb (numberOf FormNumber newest bytes) number is)
+        (t ∙ ap (λ (c : Amount.Current). flagsFit d (c .charging)) (q ∙ ap currentOf p)
+        ∙ ap (λ (x : ℕ). flagsFit x ((currentOf (numberOf Current newest bytes)) .charging)) (flags-is s))
+
+  -- the newest form has no SI in units
+  pub newest-fits : {r : Bool} → r ≡ fitsAs (newest .number) savedLength newest bytes → r ≡ formFits newest bytes
   unfolding formFits
-  not-length h = simp (ne-eqb (length bytes) (lengthOf (form1 .fields)) h)
+  newest-fits e = e
 
-  pub not-form : {b : ℕ} → length bytes ≡ lengthOf (form1 .fields) → b ≡ getD bytes (placeOf FormNumber (form1 .fields)) 0
-      → (b ≡ form1 .number → ⊥) → false ≡ formFits form1 bytes
-  unfolding formFits
-  not-form {b} l e h =
-      let is : b ≡ numberOf FormNumber form1 bytes = e ∙ sym (one-is (placeOf FormNumber (form1 .fields)) bytes) in
-      simp (eq-eqb (length bytes) (lengthOf (form1 .fields)) l, ne-eqb (numberOf FormNumber form1 bytes) (form1 .number) (λ z. h (is ∙ z)))
-
-  pub flags-tested : {b p d : ℕ} {c : Amount.Current} {r : Bool} → length bytes ≡ lengthOf (form1 .fields)
-      → b ≡ getD bytes (placeOf FormNumber (form1 .fields)) 0 → b ≡ form1 .number → p ≡ numberOf Current form1 bytes → c ≡ currentOf p
-      → d ≡ getD bytes (placeOf Flags (form1 .fields)) 0 → r ≡ flagsFit d (c .charging) → r ≡ formFits form1 bytes
-  unfolding formFits
-  flags-tested {d = d} l e n p q s t =
-      let is : numberOf FormNumber form1 bytes ≡ form1 .number = one-is (placeOf FormNumber (form1 .fields)) bytes ∙ sym e ∙ n in
-      simp (eq-eqb (length bytes) (lengthOf (form1 .fields)) l, eq-eqb (numberOf FormNumber form1 bytes) (form1 .number) is)
-      (t ∙ ap (λ (c : Amount.Current). flagsFit d (c .charging)) (q ∙ ap currentOf p)
-      ∙ ap (λ (x : ℕ). flagsFit x ((currentOf (numberOf Current form1 bytes)) .charging)) (flags-is s))
-
-  -- ---- the ways of a load
+  -- ---- bytes that are not tested yet
 
   pub own-length : (others : List ℕ) → length bytes ≡ savedLength → bytes ≡ ofLength bytes others
   unfolding ofLength
@@ -113,19 +119,67 @@ module _ (bytes : List ℕ) where
   unfolding decodedGauge
   decoded-of e p = p ∙ ap (loaded newest) e
 
-  pub misfit-loads : {r : Answer} → formFits form1 bytes ≡ false → r ≡ rejectedAnswer → r ≡ loadAnswer bytes
-  unfolding loadAnswer loadable
+  -- bytes of the form's length hold a gauge value
+  pub decoded-whole : length bytes ≡ savedLength → decodedGauge bytes ≡ loaded newest bytes
+  unfolding decodedGauge
+  decoded-whole l = ap (loaded newest) (sym (own-length (replicate savedLength 0) l))
+
+-- ---- the ways of a load, for every form
+
+module _ (g : Gauge) where
+  pub value-rejected : {r : Answer} → accepted g ≡ false → r ≡ rejectedAnswer → r ≡ acceptedAnswer g
+  unfolding acceptedAnswer
+  value-rejected a e = simp a e
+
+  pub value-accepted : accepted g ≡ true → record { number = Refusal.none; gauge = g } ≡ acceptedAnswer g
+  unfolding acceptedAnswer
+  value-accepted a = simp a
+
+  value-where-0 : (acceptedAnswer g) .number ≡ 0 → (accepted g ≡ true) × ((acceptedAnswer g) .gauge ≡ g)
+  unfolding acceptedAnswer rejectedAnswer
+  value-where-0 z = go (accepted g) refl z
+    where
+      go : (t : Bool) → accepted g ≡ t → (cond t (record { number = Refusal.none; gauge = g }) rejectedAnswer) .number ≡ 0
+          → (t ≡ true) × ((cond t (record { number = Refusal.none; gauge = g }) rejectedAnswer) .gauge ≡ g)
+      go true p q = (refl, refl)
+      go false p q = let no : ⊥ = omega arith in absurd no
+
+-- what an answer of 0 says of the bytes
+pub record Loads (form : Form) (bytes : List ℕ) : Type 0 where
+  pub fits : formFits form bytes ≡ true
+  pub accepted : accepted (loaded form bytes) ≡ true
+  pub gauge : (answerIn form bytes) .gauge ≡ loaded form bytes
+
+module _ (form : Form) (bytes : List ℕ) where
+  pub misfit-loads : {r : Answer} → formFits form bytes ≡ false → r ≡ rejectedAnswer → r ≡ answerIn form bytes
+  unfolding answerIn
   misfit-loads f e = simp f e
 
-  pub rejected-loads : {r : Answer} {g : Gauge} → formFits form1 bytes ≡ true → g ≡ loaded form1 bytes → accepted g ≡ false → r ≡ rejectedAnswer
-      → r ≡ loadAnswer bytes
-  unfolding loadAnswer loadable
-  rejected-loads f p a e = simp (f, sym (ap accepted p) ∙ a) e
+  pub value-loads : {r : Answer} {g : Gauge} → formFits form bytes ≡ true → g ≡ loaded form bytes → r ≡ acceptedAnswer g → r ≡ answerIn form bytes
+  unfolding answerIn
+  value-loads f p e = simp f (e ∙ ap acceptedAnswer p)
 
-  pub accepted-loads : {g : Gauge} → formFits form1 bytes ≡ true → g ≡ loaded form1 bytes → accepted g ≡ true
-      → record { number = Refusal.none; gauge = g } ≡ loadAnswer bytes
-  unfolding loadAnswer loadable
-  accepted-loads f p a = simp (f, sym (ap accepted p) ∙ a) (ap (λ (x : Gauge). record { number = Refusal.none; gauge = x }) p)
+  pub rejected-loads : formFits form bytes ≡ true → accepted (loaded form bytes) ≡ false → rejectedAnswer ≡ answerIn form bytes
+  rejected-loads f a = value-loads f refl (value-rejected (loaded form bytes) a refl)
+
+  pub accepted-loads : {g : Gauge} → formFits form bytes ≡ true → g ≡ loaded form bytes → accepted g ≡ true
+      → record { number = Refusal.none; gauge = g } ≡ answerIn form bytes
+  accepted-loads {g} f p a = value-loads f p (value-accepted g a)
+
+  pub loads : (answerIn form bytes) .number ≡ 0 → Loads form bytes
+  unfolding answerIn rejectedAnswer
+  loads z = go (formFits form bytes) refl
+    where
+      go : (t : Bool) → formFits form bytes ≡ t → Loads form bytes
+      go true f =
+          let is : answerIn form bytes ≡ acceptedAnswer (loaded form bytes) = simp f in
+          let v = value-where-0 (loaded form bytes) (ap (λ (x : Answer). x .number) (sym is) ∙ z) in
+          record { fits = f; accepted = v .0; gauge = ap (λ (x : Answer). x .gauge) is ∙ v .1 }
+      go false f =
+          let is : answerIn form bytes ≡ rejectedAnswer = simp f in
+          let n : _≡_ {A = ℕ} 14 0 = ap (λ (x : Answer). x .number) (sym is) ∙ z in
+          let no : ⊥ = omega arith in
+          absurd no
 
 -- the gauge of an opening that was refused for its length
 pub rejected-is : {a : Answer} → a ≡ openAnswer [] → record { number = Refusal.rejected; gauge = a .gauge } ≡ rejectedAnswer
@@ -144,19 +198,23 @@ module _ (form : Form) (bytes : List ℕ) (f : formFits form bytes ≡ true) whe
   fit : Bool
   fit = flagsFit (numberOf Flags form bytes) ((currentOf (numberOf Current form bytes)) .charging)
 
-  pub form-length : length bytes ≡ lengthOf (form .fields)
+  -- all but the condition on SI in units
+  shared : (long && (first && fit)) ≡ true
   unfolding formFits long first fit
-  form-length = eqb-true (length bytes) (lengthOf (form .fields)) (and-left long (first && fit) f)
+  shared = and-right (standbyFits form bytes) (long && (first && fit)) f
+
+  pub form-length : length bytes ≡ lengthOf (form .fields)
+  unfolding long
+  form-length = eqb-true (length bytes) (lengthOf (form .fields)) (and-left long (first && fit) shared)
 
   pub form-first : numberOf FormNumber form bytes ≡ form .number
-  unfolding formFits long first fit
-  form-first = eqb-true (numberOf FormNumber form bytes) (form .number) (and-left first fit (and-right long (first && fit) f))
+  unfolding first
+  form-first = eqb-true (numberOf FormNumber form bytes) (form .number) (and-left first fit (and-right long (first && fit) shared))
 
   pub form-flags : flagsFit (numberOf Flags form bytes) ((currentOf (numberOf Current form bytes)) .charging) ≡ true
-  unfolding formFits long first fit
-  form-flags = and-right first fit (and-right long (first && fit) f)
+  unfolding fit
+  form-flags = and-right first fit (and-right long (first && fit) shared)
 
 -- bytes in the form hold a gauge value
 pub decoded-is : (bytes : List ℕ) → formFits newest bytes ≡ true → decodedGauge bytes ≡ loaded newest bytes
-unfolding decodedGauge
-decoded-is bytes f = ap (loaded newest) (sym (own-length bytes (replicate savedLength 0) (form-length newest bytes f)))
+decoded-is bytes f = decoded-whole bytes (form-length newest bytes f)

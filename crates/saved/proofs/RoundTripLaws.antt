@@ -14,19 +14,21 @@ use Rattle.gauge.specs.Fits.{Fits}
 use Rattle.gauge.specs.declared.answer.Answer.{Answer}
 use Rattle.gauge.specs.declared.state.Gauge.{Gauge}
 use Rattle.gauge.proofs.AcceptedLaws.{sound}
-use Rattle.numbers.proofs.BoolLaws.{and-left, and-right}
 use Rattle.numbers.proofs.LittleLaws.{number-fits, whole, write-back}
 use Rattle.numbers.specs.Little.{bytesAt, little}
 use Rattle.refusals.specs.Refusal as Refusal
 use Rattle.sample.specs.Sample.{currentAccepted}
 use Rattle.flags.proofs.FlagsByteLaws.{byte-accepted, byte-back, byte-fits, flags-back, vdq-back}
-use Rattle.saved.proofs.FormLaws.{field-found, fields-held, has, number-found}
-use Rattle.saved.proofs.LoadLaws.{charge-alike, form-first, form-flags, form-length, gauge-alike, host-alike, sample-alike}
+use Rattle.saved.proofs.FormLaws.{field-found, fields-held, number-found}
+use Rattle.saved.proofs.EveryFormLaws.{newest-loads}
+use Rattle.saved.proofs.LoadLaws.{accepted-loads, charge-alike, form-first, form-flags, form-length, gauge-alike, host-alike}
+use Rattle.saved.proofs.LoadLaws.{loads, sample-alike}
 use Rattle.saved.proofs.SaveLaws.{saved-length}
 use Rattle.saved.proofs.SignedLaws.{current-back, pair-back, pair-fits}
-use Rattle.saved.specs.Form.{Ar, Configuration, Current, Dcr, Flags, FormNumber, Held, Lmd, Mode, Standby, Temperature, Voltage}
-use Rattle.saved.specs.Form.{Name, bytesOf, form1, newest, numberOf, placeOf, savedLength, widthOf}
-use Rattle.saved.specs.Load.{formFits, loadAnswer, loadRefusal, loadable, loaded, loadedCharge, loadedHost, loadedSample, rejectedAnswer}
+use Rattle.saved.specs.EveryForm.{loadAnswer}
+use Rattle.saved.specs.Form.{Ar, Configuration, Current, Dcr, Flags, FormNumber, Held, Lmd, Mode, Sixteenths, Temperature, Voltage}
+use Rattle.saved.specs.Form.{Name, bytesOf, has, newest, numberOf, placeOf, savedLength, widthOf}
+use Rattle.saved.specs.Load.{answerIn, formFits, loaded, loadedCharge, loadedHost, loadedSample}
 use Rattle.saved.specs.RoundTrip.{reloadedAnswer}
 use Rattle.saved.specs.Save.{bufferAfter, fieldBytes, flagsOfGauge, saveRefusal, savedBytes}
 use Rattle.saved.specs.Signed.{currentOf, signedPair}
@@ -102,7 +104,7 @@ module _ (g : Gauge) where
         (ap vdqOf flags-found ∙ vdq-back chgs vdq (g .flags)) (found Dcr (g .charge .run .dcr) tt refl (f .dcr)))
         (sample-alike current-found (found Voltage (g .sample .voltage) tt refl (f .voltage))
         (found Temperature (g .sample .temperature) tt refl (f .temperature)))
-        (found Standby (g .standby) tt refl (f .standby)) (ap flagsOf flags-found ∙ flags-back chgs vdq (g .flags))
+        (found Sixteenths (g .standby) tt refl (f .standby)) (ap flagsOf flags-found ∙ flags-back chgs vdq (g .flags))
         (host-alike (found Mode (g .host .mode) tt refl (f .mode)) (found Ar (g .host .ar) tt refl (f .ar)))
 
     saved-fits : formFits newest (savedBytes g) ≡ true
@@ -116,18 +118,13 @@ module _ (g : Gauge) where
         ∙ ap (flagsFit (flagsOfGauge g)) (ap (λ c. c .charging) current-found)
         ∙ byte-accepted (g .sample .current .charging) (g .charge .run .vdq) (g .flags))
 
-    -- and those bytes are accepted
-    saved-loadable : accepted g ≡ true → loadable (savedBytes g) ≡ true
-    unfolding loadable
-    saved-loadable e = simp (saved-fits, loaded-saved) e
-
-  load-back : Widths g → accepted g ≡ true → loadAnswer (savedBytes g) ≡ answer Refusal.none g
-  unfolding loadAnswer
+  -- and those bytes are accepted
+  load-back : Widths g → accepted g ≡ true → answerIn newest (savedBytes g) ≡ answer Refusal.none g
   load-back f e =
       let a = sound g e .sample .current in
-      simp (saved-loadable f a e) (ap (answer Refusal.none) (loaded-saved f a))
+      sym (accepted-loads newest (savedBytes g) (saved-fits f a) (sym (loaded-saved f a)) e)
 
-  pub load-of-saved : Fits g → accepted g ≡ true → loadAnswer (savedBytes g) ≡ record { number = Refusal.none; gauge = g }
+  pub load-of-saved : Fits g → accepted g ≡ true → answerIn newest (savedBytes g) ≡ record { number = Refusal.none; gauge = g }
   load-of-saved f e = load-back (widths-of g f) e
 
 -- ---- bytes, loaded and saved
@@ -157,7 +154,7 @@ module _ (bytes : List ℕ) (small : (k : ℕ) → getD bytes k 0 < 256) (f : fo
               (
                 back Lmd,
                 (
-                  back Standby,
+                  back Sixteenths,
                   (current ∙ back Current, (back Voltage, (back Temperature, (back Ar, (back Mode, (flags ∙ back Flags, tt)))))),
                 ),
               ),
@@ -168,27 +165,6 @@ module _ (bytes : List ℕ) (small : (k : ℕ) → getD bytes k 0 < 256) (f : fo
       ∙ whole savedLength bytes (form-length newest bytes f)
 
 -- ---- in the calls' terms
-
-pub load-number : (bytes : List ℕ) (answered : Answer) → answered ≡ loadAnswer bytes → answered .number ≡ loadRefusal bytes
-unfolding loadAnswer loadRefusal rejectedAnswer
-load-number bytes answered e = ap (λ (x : Answer). x .number) e ∙ go (loadable bytes)
-  where
-    go : (t : Bool) → (cond t (answer Refusal.none (loaded form1 bytes)) rejectedAnswer) .number ≡ cond t Refusal.none Refusal.rejected
-    go true = refl
-    go false = refl
-
-loaded-where-0 : (bytes : List ℕ) (answered : Answer) → answered ≡ loadAnswer bytes → answered .number ≡ 0
-    → (loadable bytes ≡ true) × (answered .gauge ≡ loaded form1 bytes)
-unfolding loadAnswer rejectedAnswer
-loaded-where-0 bytes answered e z = go (loadable bytes) refl e
-  where
-    go : (t : Bool) → loadable bytes ≡ t → answered ≡ cond t (answer Refusal.none (loaded form1 bytes)) rejectedAnswer
-        → (loadable bytes ≡ true) × (answered .gauge ≡ loaded form1 bytes)
-    go true p q = (p, ap (λ (x : Answer). x .gauge) q)
-    go false p q =
-        let n : answered .number ≡ 14 = ap (λ (x : Answer). x .number) q in
-        let no : ⊥ = omega arith in
-        absurd no
 
 module _ (g : Gauge) (b : List ℕ) (l : length b ≡ savedLength) where
   -- a buffer of the form's length leaves the test of the gauge alone
@@ -204,19 +180,20 @@ module _ (g : Gauge) (b : List ℕ) (l : length b ≡ savedLength) where
       go : (t : Bool) → accepted g ≡ t → r ≡ answer (cond t Refusal.none Refusal.rejected) g
       go true a =
           let s : after ≡ savedBytes g = p ∙ simp (a, eq-eqb (length b) savedLength l) in
-          q ∙ ap loadAnswer s ∙ load-back g f a
+          q ∙ ap loadAnswer s ∙ newest-loads g ∙ load-back g f a
       go false a =
           let r14 : n ≡ 14 = e ∙ simp a in
           let no : ⊥ = omega arith in
           absurd no
 
-pub resaved-done : (bytes : List ℕ) → ((k : ℕ) → getD bytes k 0 < 256) → (answered : Answer) {n : ℕ} {after : List ℕ} → answered ≡ loadAnswer bytes
+pub resaved-done : (bytes : List ℕ) → ((k : ℕ) → getD bytes k 0 < 256) → (answered : Answer) {n : ℕ} {after : List ℕ} → answered ≡ answerIn newest bytes
     → answered .number ≡ Refusal.none → n ≡ saveRefusal (answered .gauge) (length bytes) → after ≡ bufferAfter (answered .gauge) bytes
-    → (n ≡ loadRefusal bytes) × (after ≡ bytes)
-unfolding loadRefusal loadable saveRefusal bufferAfter
+    → (n ≡ (answerIn newest bytes) .number) × (after ≡ bytes)
+unfolding saveRefusal bufferAfter
 resaved-done bytes small answered {n} {after} e z p q =
-    let w = loaded-where-0 bytes answered e z in
-    let fits = and-left (formFits form1 bytes) (accepted (loaded form1 bytes)) (w .0) in
-    let a = ap accepted (w .1) ∙ and-right (formFits form1 bytes) (accepted (loaded form1 bytes)) (w .0) in
-    let l = eq-eqb (length bytes) savedLength (form-length form1 bytes fits) in
-    (p ∙ simp (a, l, w .0), q ∙ simp (a, l) (ap savedBytes (w .1) ∙ saved-loaded bytes small fits))
+    let zero = ap (λ (x : Answer). x .number) (sym e) ∙ z in
+    let w = loads newest bytes zero in
+    let g = ap (λ (x : Answer). x .gauge) e ∙ w .gauge in
+    let a = ap accepted g ∙ w .accepted in
+    let l = eq-eqb (length bytes) savedLength (form-length newest bytes (w .fits)) in
+    (p ∙ simp (a, l, zero), q ∙ simp (a, l) (ap savedBytes g ∙ saved-loaded bytes small (w .fits)))

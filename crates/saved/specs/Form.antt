@@ -1,15 +1,17 @@
--- "Saved gauge" of paper 01, the form of its bytes: a list of fields, each with a width. The form's length and every field's place are sums
--- over that list, so that a later form is another list. Definitions only; assumes nothing.
-use mathlib.Core.Bool.{Bool, cond}
+-- "Saved gauge" of paper 01 and the forms of paper 02: each form is its number and a list of fields with their widths. Its length and every
+-- field's place are sums over that list, so that a later form is made from the one before it. Definitions only; assumes nothing.
+use mathlib.Core.Bool.{Bool, true, false, cond}
 use mathlib.Core.List.{List, [], _∷_}
 use Prim.Native.Nat.{ℕ, _+_}
 use lib.Dec.{eqb}
+use lib.ListN.{getD}
 use Rattle.numbers.specs.Little.{bytesAt, numberAt}
 
 -- ---- fields
 
+-- `Standby` is SI in units, `Sixteenths` SI in sixteenths
 pub data Name : Type 0 where
-  FormNumber Configuration Held Dcr Lmd Standby Current Voltage Temperature Ar Mode Flags : Name
+  FormNumber Configuration Held Dcr Lmd Standby Sixteenths Current Voltage Temperature Ar Mode Flags : Name
 
 -- by which names are told apart
 abbrev pub nameNumber : Name → ℕ
@@ -19,12 +21,13 @@ nameNumber Held = 2
 nameNumber Dcr = 3
 nameNumber Lmd = 4
 nameNumber Standby = 5
-nameNumber Current = 6
-nameNumber Voltage = 7
-nameNumber Temperature = 8
-nameNumber Ar = 9
-nameNumber Mode = 10
-nameNumber Flags = 11
+nameNumber Sixteenths = 6
+nameNumber Current = 7
+nameNumber Voltage = 8
+nameNumber Temperature = 9
+nameNumber Ar = 10
+nameNumber Mode = 11
+nameNumber Flags = 12
 
 abbrev pub sameName : Name → Name → Bool
 sameName m n = eqb (nameNumber m) (nameNumber n)
@@ -54,6 +57,16 @@ abbrev pub widthOf : Name → List Field → ℕ
 widthOf n [] = 0
 widthOf n (f ∷ fs) = cond (sameName n (f .name)) (f .width) (widthOf n fs)
 
+-- whether a form has a field of that name
+abbrev pub has : Name → List Field → Bool
+has n [] = false
+has n (f ∷ fs) = cond (sameName n (f .name)) true (has n fs)
+
+-- the fields with another one in the place of that name's
+abbrev pub replaced : Name → Field → List Field → List Field
+replaced n field [] = []
+replaced n field (f ∷ fs) = cond (sameName n (f .name)) (field ∷ fs) (f ∷ replaced n field fs)
+
 -- ---- forms
 
 pub record Form : Type 0 where
@@ -70,15 +83,33 @@ form1 =
           ∷ Temperature takes 2 ∷ Ar takes 2 ∷ Mode takes 1 ∷ Flags takes 1 ∷ [];
     }
 
--- the form that is saved
+-- A1: "form 2 with the sixteenths .. in the same two bytes"
+abbrev pub form2 : Form
+form2 = record { number = 2; fields = replaced Standby (Sixteenths takes 2) (form1 .fields) }
+
+-- "saving writes the newest form"
 abbrev pub newest : Form
-newest = form1
+newest = form2
 
 abbrev pub savedLength : ℕ
 savedLength = lengthOf (newest .fields)
 
+-- the forms that are read beside it: "Form 1 is still read"
+abbrev pub older : List Form
+older = form1 ∷ []
+
+-- the form of a number; any other number is held to the newest, which it is not
+abbrev pub formNumbered : ℕ → List Form → Form
+formNumbered n [] = newest
+formNumbered n (form ∷ forms) = cond (eqb n (form .number)) form (formNumbered n forms)
+
+-- the form that bytes are in, which their first byte tells
+abbrev pub formOf : List ℕ → Form
+formOf bytes = formNumbered (getD bytes 0 0) older
+
 -- ---- a field in bytes of a form
 
+-- 0 where the form has no such field
 abbrev pub numberOf : Name → Form → List ℕ → ℕ
 numberOf n form bytes = numberAt (widthOf n (form .fields)) (placeOf n (form .fields)) bytes
 

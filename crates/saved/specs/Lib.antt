@@ -1,3 +1,4 @@
+pub mod EveryForm
 pub mod Form
 pub mod Load
 pub mod Put

@@ -17,7 +17,7 @@ numberPut n value bytes = sets bytes (placeOf n (newest .fields)) (little (width
 abbrev pub configurationPut : List ℕ → List ℕ → List ℕ
 configurationPut c bytes = sets bytes (placeOf Configuration (newest .fields)) (bytesAt (widthOf Configuration (newest .fields)) 0 c)
 
--- "form 1; configuration", over zeros
+-- the form's number and the "configuration", over zeros
 unfoldable pub headed : List ℕ → List ℕ
 headed c = configurationPut c (numberPut FormNumber (newest .number) (replicate savedLength 0))
 

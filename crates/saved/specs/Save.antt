@@ -1,4 +1,5 @@
--- "Saved gauge" of paper 01, saving: every byte of the form from the gauge. Definitions only; assumes nothing.
+-- "Saved gauge" of paper 01, saving: every byte of a form from the gauge; "saving writes the newest form" (A1 of paper 02). Definitions only;
+-- assumes nothing.
 use mathlib.Core.Bool.{cond}
 use mathlib.Core.List.{List, [], _∷_, _++_}
 use Prim.Native.Nat.{ℕ}
@@ -13,7 +14,9 @@ use Rattle.host.specs.declared.host.Host.{Host}
 use Rattle.numbers.specs.Little.{bytesAt, little}
 use Rattle.refusals.specs.Refusal as Refusal
 use Rattle.sample.specs.declared.sample.Sample.{Sample}
-use Rattle.saved.specs.Form.{Ar, Configuration, Current, Dcr, Field, Flags, Form, FormNumber, Held, Lmd, Mode, Name, Standby, Temperature, Voltage, newest, savedLength}
+use Rattle.standby.specs.Standby.{shown}
+use Rattle.saved.specs.Form.{Ar, Configuration, Current, Dcr, Flags, FormNumber, Held, Lmd, Mode, Sixteenths, Standby, Temperature, Voltage}
+use Rattle.saved.specs.Form.{Field, Form, Name, newest, savedLength}
 use Rattle.saved.specs.Signed.{signedPair}
 
 -- FLAGS of a gauge: CHGS is the direction of c, VDQ belongs to the run
@@ -27,7 +30,8 @@ fieldBytes form g Configuration width = bytesAt width 0 (g .configuration)
 fieldBytes form g Held width = little width (g .charge .held)
 fieldBytes form g Dcr width = little width (g .charge .run .dcr)
 fieldBytes form g Lmd width = little width (g .charge .lmd)
-fieldBytes form g Standby width = little width (g .standby)
+fieldBytes form g Standby width = little width (shown (g .standby))
+fieldBytes form g Sixteenths width = little width (g .standby)
 fieldBytes form g Current width = little width (signedPair (g .sample .current))
 fieldBytes form g Voltage width = little width (g .sample .voltage)
 fieldBytes form g Temperature width = little width (g .sample .temperature)
@@ -48,7 +52,7 @@ savedBytes g = bytesIn newest g
 
 -- ---- a buffer
 
--- 13, "save buffer not 41"
+-- 13 "asks for exactly its length", the newest form's
 abbrev pub lengthRefusal : ℕ → ℕ
 lengthRefusal bufferLength = cond (eqb bufferLength savedLength) Refusal.none Refusal.bufferLength
 

@@ -1,7 +1,10 @@
-// Form 1: its number, and where each field stands, which is where the field before it ends.
+// The forms' numbers, and where each field of the newest stands, which is where the field before it ends. Form 1 has the same places.
 
-// "form 1".
-pub const FORM: u8 = 1;
+// The newest form, in which a gauge is saved.
+pub const FORM: u8 = 2;
+
+// "form 1", whose SI is in units.
+pub const FORM_1: u8 = 1;
 
 pub const AT_FORM: u16 = 0;
 
@@ -13,6 +16,7 @@ pub const AT_DCR: u16 = AT_HELD + 8;
 
 pub const AT_LMD: u16 = AT_DCR + 8;
 
+// SI in sixteenths, in form 1 in units.
 pub const AT_STANDBY: u16 = AT_LMD + 2;
 
 pub const AT_CURRENT: u16 = AT_STANDBY + 2;
@@ -27,5 +31,5 @@ pub const AT_MODE: u16 = AT_AR + 2;
 
 pub const AT_FLAGS: u16 = AT_MODE + 1;
 
-// "41 bytes".
+// "41 bytes", form 1 too.
 pub const LENGTH: u16 = AT_FLAGS + 1;

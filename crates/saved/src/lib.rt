@@ -1,4 +1,5 @@
-// The saved gauge: 41 bytes and back.
+// The saved gauge: its bytes in the newest form and back, and bytes of every older form read.
+pub mod every_form;
 pub mod form;
 pub mod load;
 mod place;

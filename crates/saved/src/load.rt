@@ -1,6 +1,6 @@
-// Loading a gauge from bytes of any length and content.
+// Loading a gauge from bytes of the newest form.
 ghost use mathlib.Core.Path.{_≡_};
-ghost use Rattle.saved.specs.Form.{form1};
+ghost use Rattle.saved.specs.Form.{newest};
 ghost use Rattle.saved.specs.Load as Spec;
 use crate::form::AT_AR;
 use crate::form::AT_CONFIGURATION;
@@ -35,7 +35,7 @@ use refusals::REJECTED;
 use sample::sample::Sample;
 
 fn loaded_charge(bytes: &[u8]) -> Charge
-    ensures { λ r. ⌜ r ≡ Spec.loadedCharge form1 (now (bytes .entry)) ⌝ }
+    ensures { λ r. ⌜ r ≡ Spec.loadedCharge newest (now (bytes .entry)) ⌝ }
 {
     let held = eight_at(bytes, AT_HELD);
     let dcr = eight_at(bytes, AT_DCR);
@@ -46,7 +46,7 @@ fn loaded_charge(bytes: &[u8]) -> Charge
 }
 
 fn loaded_sample(bytes: &[u8]) -> Sample
-    ensures { λ r. ⌜ r ≡ Spec.loadedSample form1 (now (bytes .entry)) ⌝ }
+    ensures { λ r. ⌜ r ≡ Spec.loadedSample newest (now (bytes .entry)) ⌝ }
 {
     let current = current_of(two_at(bytes, AT_CURRENT));
     let voltage = two_at(bytes, AT_VOLTAGE);
@@ -59,7 +59,7 @@ fn loaded_sample(bytes: &[u8]) -> Sample
 }
 
 fn loaded_host(bytes: &[u8]) -> Host
-    ensures { λ r. ⌜ r ≡ Spec.loadedHost form1 (now (bytes .entry)) ⌝ }
+    ensures { λ r. ⌜ r ≡ Spec.loadedHost newest (now (bytes .entry)) ⌝ }
 {
     let mode = byte_at(bytes, AT_MODE as usize);
     let ar = two_at(bytes, AT_AR);
@@ -68,7 +68,7 @@ fn loaded_host(bytes: &[u8]) -> Host
 
 // What the bytes hold, accepted or not; a byte past their end is 0.
 fn loaded_gauge(bytes: &[u8]) -> Gauge
-    ensures { λ r. ⌜ r ≡ Spec.loaded form1 (now (bytes .entry)) ⌝ }
+    ensures { λ r. ⌜ r ≡ Spec.loaded newest (now (bytes .entry)) ⌝ }
 {
     let configuration = ten_at(bytes, AT_CONFIGURATION);
     let charge = loaded_charge(bytes);
@@ -86,28 +86,48 @@ fn loaded_gauge(bytes: &[u8]) -> Gauge
     }
 }
 
-// "length 41, form 1", and the flags that a gauge value has no room for.
-pub fn form_fits(bytes: &[u8]) -> bool
-    ensures { λ r. ⌜ r ≡ Spec.formFits form1 (now (bytes .entry)) ⌝ }
+// Bytes of a length and a number, with no flags but those that a gauge value has room for.
+pub(crate) fn in_form(bytes: &[u8], number: u8, length: u16) -> bool
+    ensures { λ r. ⌜ r ≡ Spec.fitsAs number length newest (now (bytes .entry)) ⌝ }
 {
-    if bytes.len() != LENGTH as usize {
+    if bytes.len() != length as usize {
         return false;
     }
-    if byte_at(bytes, AT_FORM as usize) != FORM {
+    if byte_at(bytes, AT_FORM as usize) != number {
         return false;
     }
     let current = current_of(two_at(bytes, AT_CURRENT));
     flags_fit(byte_at(bytes, AT_FLAGS as usize), current.charging)
 }
 
+// The newest form, as far as a gauge value does not show it.
+pub fn form_fits(bytes: &[u8]) -> bool
+    ensures { λ r. ⌜ r ≡ Spec.formFits newest (now (bytes .entry)) ⌝ }
+{
+    in_form(bytes, FORM, LENGTH)
+}
+
 // 14, with the gauge of a refused opening: rejected bytes hold none.
-fn rejected() -> Answer
+pub(crate) fn rejected() -> Answer
     ensures { λ r. ⌜ r ≡ Spec.rejectedAnswer ⌝ }
 {
     let refused = open(b"");
     let gauge = refused.gauge;
     Answer {
         number: REJECTED,
+        gauge,
+    }
+}
+
+// The gauge value that was read, or 14.
+pub(crate) fn unless_rejected(gauge: Gauge) -> Answer
+    ensures { λ r. ⌜ r ≡ Spec.acceptedAnswer gauge ⌝ }
+{
+    if !gauge.accepted() {
+        return rejected();
+    }
+    Answer {
+        number: NONE,
         gauge,
     }
 }
@@ -131,19 +151,12 @@ pub fn decoded(bytes: &[u8]) -> Gauge
     loaded_gauge(of_length(bytes, &zeros))
 }
 
-// The gauge that the bytes hold, or 14.
-pub fn load(bytes: &[u8]) -> Answer
-    ensures { λ r. ⌜ r ≡ Spec.loadAnswer (now (bytes .entry)) ⌝ }
+// The gauge that bytes of the newest form hold, or 14.
+pub(crate) fn load_newest(bytes: &[u8]) -> Answer
+    ensures { λ r. ⌜ r ≡ Spec.answerIn newest (now (bytes .entry)) ⌝ }
 {
     if !form_fits(bytes) {
         return rejected();
     }
-    let gauge = decoded(bytes);
-    if !gauge.accepted() {
-        return rejected();
-    }
-    Answer {
-        number: NONE,
-        gauge,
-    }
+    unless_rejected(decoded(bytes))
 }

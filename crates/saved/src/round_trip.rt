@@ -1,9 +1,11 @@
 // Both round trips, as contracts: a saved gauge reads back as itself, and what is read back saves as the same bytes.
 ghost use mathlib.Core.Path.{_≡_};
-ghost use Rattle.saved.specs.Load.{loadRefusal};
+ghost use Rattle.saved.specs.Form.{newest};
+ghost use Rattle.saved.specs.Load.{answerIn};
 ghost use Rattle.saved.specs.RoundTrip as Spec;
+use crate::every_form::load;
 use crate::form::LENGTH;
-use crate::load::load;
+use crate::load::load_newest;
 use crate::save::save;
 use gauge::answer::Answer;
 use gauge::state::Gauge;
@@ -21,12 +23,12 @@ pub fn reloaded(gauge: Gauge) -> Answer
     load(&bytes)
 }
 
-// Loaded and saved again: the same bytes, whether they are accepted or not.
+// Bytes of the newest form loaded and saved again: the same bytes. Others are left as they are.
 pub fn resaved(bytes: &mut [u8]) -> u32
-    ensures number { λ r. ⌜ r ≡ loadRefusal (now (bytes .entry)) ⌝ }
+    ensures number { λ r. ⌜ r ≡ (answerIn newest (now (bytes .entry))) .number ⌝ }
     ensures bytes { λ _. ⌜ now (bytes .exit) ≡ now (bytes .entry) ⌝ }
 {
-    let answer = load(bytes);
+    let answer = load_newest(bytes);
     if answer.number != NONE {
         return answer.number;
     }

@@ -18,6 +18,13 @@ pub unsafe extern "C" fn gauge_open(
 }
 
 /// # Safety
+/// Both pointers are valid for their lengths, and the buffers do not overlap.
+#[no_mangle]
+pub unsafe extern "C" fn gauge_convert(old: *const u8, old_length: usize, saved: *mut u8, saved_length: usize) -> u32 {
+    reference::calls::convert(from_raw_parts(old, old_length), from_raw_parts_mut(saved, saved_length))
+}
+
+/// # Safety
 /// The pointer is valid for its length.
 #[no_mangle]
 pub unsafe extern "C" fn gauge_window(saved: *mut u8, saved_length: usize, current: i32, voltage: i32, temperature: i32) -> u32 {

@@ -36,6 +36,21 @@ pub fn after(mut bytes: [u8; 41], current: i32, voltage: i32, temperature: i32) 
     bytes
 }
 
+/// Saved bytes in form 1: SI in whole units in the same two bytes, all else as in form 2.
+pub fn as_form_1(bytes: &[u8; 41]) -> [u8; 41] {
+    let si = u16::from_le_bytes([bytes[29], bytes[30]]);
+    assert_eq!(si % 16, 0, "form 1 has no parts of a unit");
+    with_si(1, bytes, si / 16)
+}
+
+/// Saved bytes with another form and another SI as it is stored.
+pub fn with_si(form: u8, bytes: &[u8; 41], si: u16) -> [u8; 41] {
+    let mut other = *bytes;
+    other[0] = form;
+    other[29..31].copy_from_slice(&si.to_le_bytes());
+    other
+}
+
 /// A register pair.
 pub fn pair(bytes: &[u8], address: u32) -> u16 {
     let mut reply = [0; 2];

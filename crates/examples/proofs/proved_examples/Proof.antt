@@ -23,7 +23,7 @@ use Rattle.sample.specs.Current.{charge, counted, discharge}
 use Rattle.sample.specs.Limits.{zeroOrWithin}
 use Rattle.sample.specs.Range.{between, currentInRange, valueBetween}
 use Rattle.sample.specs.Sample.{currentAccepted, noSample, sampleAccepted}
-use Rattle.sample.specs.Standby.{averaged, standbyAccepted}
+use Rattle.standby.specs.Standby.{averaged, standbyAccepted}
 use Rattle.examples.proofs.proved_examples.Statement.{statement}
 use Rattle.examples.proofs.proved_examples.Tie as tie
 

@@ -23,7 +23,7 @@ use Rattle.sample.specs.Current.{charge, counted, discharge}
 use Rattle.sample.specs.Limits.{zeroOrWithin}
 use Rattle.sample.specs.Range.{between, currentInRange, valueBetween}
 use Rattle.sample.specs.Sample.{currentAccepted, noSample, sampleAccepted}
-use Rattle.sample.specs.Standby.{averaged, standbyAccepted}
+use Rattle.standby.specs.Standby.{averaged, shown, standbyAccepted}
 use Rattle.examples.proofs.proved_rows.Statement.{statement}
 use Rattle.examples.proofs.proved_rows.Tie as tie
 
@@ -33,7 +33,7 @@ unfolding chargeAccepted emptied filled heldMoved leaked moved openedCharge runM
     windowAnswer writeAnswer writeRefusal written openAnswer openRefusal opened reachedIn summed window band leak leakRate reached weight
     learned drained runAccepted unlessPassed commandsCleared fullIf initCleared openedHost stored endingOf mayTeach isFull chargeEnded
     chargeReached filledIf flagsEnded reachedBy artte stte tte ttf cac fcac reduction charge counted discharge zeroOrWithin between
-    currentInRange valueBetween currentAccepted noSample sampleAccepted averaged standbyAccepted
+    currentInRange valueBetween currentAccepted noSample sampleAccepted averaged shown standbyAccepted
 returns c =
     record {
       e1-margin = refl;

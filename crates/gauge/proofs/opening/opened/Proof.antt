@@ -11,8 +11,8 @@ opened-requires c κs = search needs
 none-requires : tie.Need-none-requires
 none-requires c κs = search needs
 
-s0-requires : tie.Need-s0-requires
-s0-requires c κs = search needs
+opened-standby-requires : tie.Need-opened-standby-requires
+opened-standby-requires c κs = search needs
 
 opened-requires-2 : tie.Need-opened-requires-2
 opened-requires-2 c κs = search needs
@@ -25,7 +25,7 @@ unfolding opened
 returns c =
     let p = c .before .before in
     let q = p .before .before in
-    gauge-is (q .opened .ensures) (p .before .none .ensures) (p .s0 .ensures) (c .before .opened2 .ensures) (c .opened3 .ensures)
+    gauge-is (q .opened .ensures) (p .before .none .ensures) (p .opened-standby .ensures) (c .before .opened2 .ensures) (c .opened3 .ensures)
 
 pub opened-spec : {M : Type 1} → statement M
 opened-spec =
@@ -33,7 +33,7 @@ opened-spec =
     (tie.spec
     opened-requires
     none-requires
-    s0-requires
+    opened-standby-requires
     opened-requires-2
     opened-requires-3
     returns)

@@ -34,7 +34,7 @@ unfolding mayTeach
 returns-2 c =
     let a = c .before .before .before .args in
     let h : coldThreshold (a .configuration) ≤ a .temperature = omega arith in
-    simp (le-leb _ _ h) (ap (λ (n : ℕ). ltb (2 * n) (a .discharge)) (c .s0 .ensures))
+    simp (le-leb _ _ h) (ap (λ (n : ℕ). ltb (2 * n) (a .discharge)) (c .s0 .ensures .0))
 
 pub may-teach-spec : {M : Type 1} → statement M
 may-teach-spec =

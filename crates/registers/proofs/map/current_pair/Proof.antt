@@ -2,6 +2,7 @@
 use mathlib.Core.Path.{refl}
 use native.Mathlib.Omega.{arith}
 use Prim.Native.Nat.{_<_}
+use borrow.Author.Needs.{needs}
 use Rattle.registers.specs.Map.{lookUp, register, rows}
 use Rattle.registers.proofs.MapLaws.{last-of-five, shows-pair}
 use Rattle.registers.proofs.map.current_pair.Statement.{statement}
@@ -9,9 +10,6 @@ use Rattle.registers.proofs.map.current_pair.Tie as tie
 
 iav-fits : (s : tie.Start) → s .args .gauge .sample .current .magnitude < 65_536
 iav-fits s = omega arith
-
-standby-fits : (s : tie.Start) → s .args .gauge .standby < 65_536
-standby-fits s = omega arith
 
 returns : tie.Need-returns
 unfolding register lookUp rows
@@ -35,9 +33,15 @@ returns-3 c =
     let p = c .before in
     shows-pair (p .before .before .before .args .gauge) (p .if3 .taken) (c .ttf .ensures) (c .ttf .ok) refl
 
+si-requires : tie.Need-si-requires
+si-requires c κs = search needs
+
 returns-4 : tie.Need-returns-4
 unfolding register lookUp rows
-returns-4 c = let s = c .before .before .before .before in shows-pair (s .args .gauge) (c .if4 .taken) refl (standby-fits s) refl
+returns-4 c =
+    let p = c .before in
+    let s = p .before .before .before .before in
+    shows-pair (s .args .gauge) (p .if4 .taken) (c .si .ensures) (c .si .ok) refl
 
 stte-requires : tie.Need-stte-requires
 stte-requires c κs = c .before .before .before .before .pre .0
@@ -62,6 +66,7 @@ current-pair-spec =
     returns-2
     ttf-requires
     returns-3
+    si-requires
     returns-4
     stte-requires
     returns-5)

@@ -13,13 +13,17 @@ cast-minutes c = search needs
 mul-minutes : tie.Need-mul-minutes
 mul-minutes c = search needs
 
+si-requires : tie.Need-si-requires
+si-requires c κs = search needs
+
 minutes-requires : tie.Need-minutes-requires
 minutes-requires c κs = tt
 
 returns : tie.Need-returns
 returns c =
-    let p = c .before in
-    stte-is (p .before .args .gauge) (p .nac .ensures .0) (c .minutes .ensures)
+    let q = c .before in
+    let p = q .before in
+    stte-is (p .before .args .gauge) (p .nac .ensures .0) (q .si .ensures) (c .minutes .ensures)
 
 pub stte-spec : {M : Type 1} → statement M
-stte-spec = tie.close (tie.spec nac-requires cast-minutes mul-minutes minutes-requires returns)
+stte-spec = tie.close (tie.spec nac-requires cast-minutes mul-minutes si-requires minutes-requires returns)

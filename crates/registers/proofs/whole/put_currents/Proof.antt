@@ -21,12 +21,15 @@ ttf-requires c κs =
 put-pair-requires-3 : tie.Need-put-pair-requires-3
 put-pair-requires-3 c κs = search needs
 
+si-requires : tie.Need-si-requires
+si-requires c κs = search needs
+
 put-pair-requires-4 : tie.Need-put-pair-requires-4
 put-pair-requires-4 c κs = search needs
 
 stte-requires : tie.Need-stte-requires
 stte-requires c κs =
-    let p = c .before .before .before .before in
+    let p = c .before .before .before .before .before in
     let q = p .before .before .before in
     q .before .before .before .before .pre
 
@@ -36,7 +39,8 @@ put-pair-requires-5 c κs = search needs
 returns : tie.Need-returns
 returns c =
     let stte = c .before in
-    let si = stte .before .before in
+    let put4 = stte .before .before in
+    let si = put4 .before in
     let put3 = si .before .before in
     let ttf = put3 .before in
     let put2 = ttf .before .before in
@@ -44,7 +48,7 @@ returns c =
     let iav = tte .before .before in
     let a = iav .before .before .args in
     currents-stored (a .gauge) (a .bytes .now) (iav .put-pair .ensures) (tte .tte .ensures) (put2 .put-pair2 .ensures)
-    (ttf .ttf .ensures) (put3 .put-pair3 .ensures) (si .put-pair4 .ensures) (stte .stte .ensures) (c .put-pair5 .ensures)
+    (ttf .ttf .ensures) (put3 .put-pair3 .ensures) (si .si .ensures) (put4 .put-pair4 .ensures) (stte .stte .ensures) (c .put-pair5 .ensures)
 
 pub put-currents-spec : {M : Type 1} → statement M
 put-currents-spec =
@@ -55,6 +59,7 @@ put-currents-spec =
     put-pair-requires-2
     ttf-requires
     put-pair-requires-3
+    si-requires
     put-pair-requires-4
     stte-requires
     put-pair-requires-5

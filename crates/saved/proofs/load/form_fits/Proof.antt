@@ -1,66 +1,14 @@
--- Each way answers what its tests pick. Assumes nothing.
-use denote.Ref.{now}
-use Rattle.saved.proofs.LoadLaws.{flags-tested, not-form, not-length}
+-- The newest form's own number and length. Assumes nothing.
+use Rattle.saved.proofs.LoadLaws.{newest-fits}
 use borrow.Author.Needs.{needs}
 use Rattle.saved.proofs.load.form_fits.Statement.{statement}
 use Rattle.saved.proofs.load.form_fits.Tie as tie
 
-cast-if1 : tie.Need-cast-if1
-cast-if1 c = search needs
+in-form-requires : tie.Need-in-form-requires
+in-form-requires c κs = search needs
 
 returns : tie.Need-returns
-returns c = not-length (now (c .before .before .args .bytes)) (c .if1 .taken)
-
-cast-byte-at : tie.Need-cast-byte-at
-cast-byte-at c = search needs
-
-byte-at-requires : tie.Need-byte-at-requires
-byte-at-requires c κs = search needs
-
-returns-2 : tie.Need-returns-2
-returns-2 c =
-    let p = c .before in
-    let q = p .before in
-    not-form (now (q .before .before .args .bytes)) (q .if1 .left) (p .byte-at .ensures) (c .if2 .taken)
-
-two-at-requires : tie.Need-two-at-requires
-two-at-requires c κs = search needs
-
-current-of-requires : tie.Need-current-of-requires
-current-of-requires c κs = search needs
-
-cast-byte-at-2 : tie.Need-cast-byte-at-2
-cast-byte-at-2 c = search needs
-
-byte-at-requires-2 : tie.Need-byte-at-requires-2
-byte-at-requires-2 c κs = search needs
-
-flags-fit-requires : tie.Need-flags-fit-requires
-flags-fit-requires c κs = search needs
-
-returns-3 : tie.Need-returns-3
-returns-3 c =
-    let p1 = c .before in
-    let p2 = p1 .before in
-    let p3 = p2 .before in
-    let p4 = p3 .before in
-    let p5 = p4 .before in
-    let p6 = p5 .before in
-    flags-tested (now (p6 .before .before .args .bytes)) (p6 .if1 .left) (p5 .byte-at .ensures) (p4 .if2 .left) (p3 .two-at .ensures)
-    (p2 .current-of .ensures) (p1 .byte-at2 .ensures) (c .flags-fit .ensures)
+returns c = newest-fits _ (c .in-form .ensures)
 
 pub form-fits-spec : {M : Type 1} → statement M
-form-fits-spec =
-    tie.close
-    (tie.spec
-    cast-if1
-    returns
-    cast-byte-at
-    byte-at-requires
-    returns-2
-    two-at-requires
-    current-of-requires
-    cast-byte-at-2
-    byte-at-requires-2
-    flags-fit-requires
-    returns-3)
+form-fits-spec = tie.close (tie.spec in-form-requires returns)

@@ -3,7 +3,6 @@ use mathlib.Core.Path.{_≡_, ap, _∙_, sym}
 use Prim.Native.Nat.{ℕ}
 use borrow.Author.Tests.{eq-eqb, ne-eqb, not-true, not-false}
 use Rattle.sample.specs.Sample.{sampleAccepted}
-use Rattle.sample.specs.Standby.{standbyAccepted}
 use Rattle.gauge.proofs.AcceptedLaws.{no-capacity, no-charge, no-standby, last-test}
 use borrow.Author.Needs.{needs}
 use Rattle.gauge.proofs.state.Gauge.accepted.Statement.{statement}
@@ -27,22 +26,19 @@ returns-2 c =
     no-charge (q .before .before .args .self) (ne-eqb _ _ (λ e. p .if1 .left (q .ilmd .ensures ∙ e)))
     (sym (c .before .accepted .ensures) ∙ not-true _ (c .if2 .taken))
 
-s0-requires : tie.Need-s0-requires
-s0-requires c κs = search needs
-
 standby-accepted-requires : tie.Need-standby-accepted-requires
 standby-accepted-requires c κs = search needs
 
 returns-3 : tie.Need-returns-3
 returns-3 c =
     let s = c .before in
-    let r = s .before .before in
+    let r = s .before in
     let p = r .before .before in
     let q = p .before in
     let g = q .before .before .args .self in
     no-standby g (ne-eqb _ _ (λ e. p .if1 .left (q .ilmd .ensures ∙ e)))
     (sym (r .before .accepted .ensures) ∙ not-false _ (r .if2 .left))
-    (sym (s .standby-accepted .ensures ∙ ap (λ (n : ℕ). standbyAccepted n (g .standby)) (s .before .s0 .ensures)) ∙ not-true _ (c .if3 .taken))
+    (sym (s .standby-accepted .ensures) ∙ not-true _ (c .if3 .taken))
 
 dmf-requires : tie.Need-dmf-requires
 dmf-requires c κs = search needs
@@ -54,13 +50,13 @@ returns-4 : tie.Need-returns-4
 returns-4 c =
     let u = c .before .before in
     let s = u .before in
-    let r = s .before .before in
+    let r = s .before in
     let p = r .before .before in
     let q = p .before in
     let g = q .before .before .args .self in
     last-test g (ne-eqb _ _ (λ e. p .if1 .left (q .ilmd .ensures ∙ e)))
     (sym (r .before .accepted .ensures) ∙ not-false _ (r .if2 .left))
-    (sym (s .standby-accepted .ensures ∙ ap (λ (n : ℕ). standbyAccepted n (g .standby)) (s .before .s0 .ensures)) ∙ not-false _ (u .if3 .left))
+    (sym (s .standby-accepted .ensures) ∙ not-false _ (u .if3 .left))
     (c .accepted2 .ensures ∙ ap (λ (n : ℕ). sampleAccepted n (g .sample)) (c .before .dmf .ensures .0))
 
 pub accepted-spec : {M : Type 1} → statement M
@@ -71,7 +67,6 @@ accepted-spec =
     returns
     accepted-requires
     returns-2
-    s0-requires
     standby-accepted-requires
     returns-3
     dmf-requires

@@ -1,10 +1,9 @@
 -- The parts, put together. Assumes nothing.
 use mathlib.Core.Bool.{Bool}
 use mathlib.Core.Path.{_≡_, ap, _∙_}
-use Prim.Native.Nat.{ℕ}
-use Rattle.command.specs.Command.{isReset}
+use Rattle.configuration.specs.Configuration.{s0}
 use Rattle.sample.specs.Sample.{sampleReset}
-use Rattle.sample.specs.Standby.{standbyReset}
+use Rattle.standby.specs.Standby.{standbyReset}
 use Rattle.gauge.specs.Obey.{obeyed}
 use Rattle.gauge.proofs.GaugeLaws.{gauge-is}
 use borrow.Author.Needs.{needs}
@@ -20,9 +19,6 @@ obeyed-requires c κs = search needs
 reset-if-requires : tie.Need-reset-if-requires
 reset-if-requires c κs = search needs
 
-s0-requires : tie.Need-s0-requires
-s0-requires c κs = search needs
-
 reset-if-requires-2 : tie.Need-reset-if-requires-2
 reset-if-requires-2 c κs = search needs
 
@@ -36,13 +32,12 @@ returns : tie.Need-returns
 unfolding obeyed
 returns c =
     let p = c .before .before in
-    let q = p .before .before in
+    let q = p .before in
     let r = q .before .before in
     let a = r .before .before .args in
     let g = a .self in
     gauge-is (q .before .obeyed .ensures) (q .reset-if .ensures ∙ ap (λ (t : Bool). sampleReset t (g .sample)) (r .is-reset .ensures))
-    (p .reset-if2 .ensures ∙ ap (λ (t : Bool). standbyReset t (p .before .s0 .result) (g .standby)) (r .is-reset .ensures)
-    ∙ ap (λ (n : ℕ). standbyReset (isReset (a .command)) n (g .standby)) (p .before .s0 .ensures))
+    (p .reset-if2 .ensures ∙ ap (λ (t : Bool). standbyReset t (s0 (g .configuration)) (g .standby)) (r .is-reset .ensures))
     (c .before .obeyed2 .ensures) (c .obeyed3 .ensures)
 
 pub obeyed-spec : {M : Type 1} → statement M
@@ -52,7 +47,6 @@ obeyed-spec =
     is-reset-requires
     obeyed-requires
     reset-if-requires
-    s0-requires
     reset-if-requires-2
     obeyed-requires-2
     obeyed-requires-3

@@ -31,9 +31,6 @@ flags-ended-requires c κs = search needs
 full-if-requires : tie.Need-full-if-requires
 full-if-requires c κs = search needs
 
-s0-requires : tie.Need-s0-requires
-s0-requires c κs = search needs
-
 discharge-requires-2 : tie.Need-discharge-requires-2
 discharge-requires-2 c κs = search needs
 
@@ -52,11 +49,10 @@ returns c =
     let p8 = p7 .before in
     let p9 = p8 .before in
     let p10 = p9 .before in
-    let p11 = p10 .before in
-    let a = p11 .before .before .args in
-    stepped-is (a .current) (a .voltage) (a .temperature) (a .self) (p11 .summed .ensures) (p10 .is-full .ensures) (p9 .discharge .ensures)
-    (p8 .ending-of .ensures) (p7 .filled-if .ensures) (p6 .charge-ended .ensures) (p5 .cleared-if .ensures) (p4 .flags-ended .ensures)
-    (p3 .full-if .ensures) (p2 .s0 .ensures) (p1 .discharge2 .ensures) (c .averaged .ensures)
+    let a = p10 .before .before .args in
+    stepped-is (a .current) (a .voltage) (a .temperature) (a .self) (p10 .summed .ensures) (p9 .is-full .ensures) (p8 .discharge .ensures)
+    (p7 .ending-of .ensures) (p6 .filled-if .ensures) (p5 .charge-ended .ensures) (p4 .cleared-if .ensures) (p3 .flags-ended .ensures)
+    (p2 .full-if .ensures) (p1 .discharge2 .ensures) (c .averaged .ensures)
 
 pub stepped-spec : {M : Type 1} → statement M
 stepped-spec =
@@ -71,7 +67,6 @@ stepped-spec =
     cleared-if-requires
     flags-ended-requires
     full-if-requires
-    s0-requires
     discharge-requires-2
     averaged-requires
     returns)

@@ -1,0 +1,98 @@
+//! A trial while it runs: the gauge on both sides, and the history that its calls give. Everything is compared after every step.
+
+use crate::begun::{has_run, is_older, Begun, LENT};
+use crate::both::Both;
+use crate::conversions;
+use crate::counts::Counts;
+use crate::difference::{same, same_bytes, Difference};
+use crate::events::{self, Standing};
+use crate::older;
+use crate::step::Step;
+use crate::table::{Event, Part};
+use crate::trial::Start;
+use reference::fixing::{FixingPoint, FixingPoints};
+use reference::history::Call;
+use reference::refusal::SAVED;
+
+pub struct Running<'a> {
+    now: Begun,
+    part: Part,
+    counts: &'a mut Counts,
+}
+
+impl<'a> Running<'a> {
+    pub fn begin(start: &Start, part: Part, counts: &'a mut Counts) -> Result<Running<'a>, Difference> {
+        let now = Begun::at(start, part, counts)?;
+        let running = Running { now, part, counts };
+        running.same_standing()?;
+        Ok(running)
+    }
+
+    /// The bytes as they stand, the same on both sides.
+    pub fn saved(self) -> Vec<u8> {
+        self.now.both.reference
+    }
+
+    pub fn step(&mut self, step: &Step) -> Result<(), Difference> {
+        match step {
+            Step::Call(call) => self.call(call)?,
+            Step::Update => self.update()?,
+        }
+        self.same_standing()
+    }
+
+    /// Makes a call on both sides and on the history, if there is one.
+    fn call(&mut self, call: &Call) -> Result<(), Difference> {
+        let before = self.standing();
+        let number = self.now.both.call(call)?;
+        self.counts.add_number(self.part, events::kind(call), number);
+        if let Some(history) = &mut self.now.history {
+            let answer = history.call(call);
+            same("number and the history's number", number, answer.err().unwrap_or(0))?;
+            self.follow_run(answer.unwrap_or_default());
+        }
+        match (number, before, self.standing()) {
+            (0, Some(before), Some(after)) => events::count(self.counts, self.part, &before, &after, call),
+            (SAVED, ..) => conversions::refused(self.counts, self.part, &self.now.both.reference, call),
+            _ => {}
+        }
+        Ok(())
+    }
+
+    /// Counts a converted run that has taught, and forgets it where it ends or another begins.
+    fn follow_run(&mut self, points: FixingPoints) {
+        let taught = self.now.converted_run && points.contains(FixingPoint::QualifiedRun);
+        self.counts.add_if(self.part, Event::ConvertedRunTeaches, taught);
+        let another = points.contains(FixingPoint::Full) || points.contains(FixingPoint::Done);
+        self.now.converted_run &= has_run(&self.now.history) && !another;
+    }
+
+    /// An older form of the bytes is converted, which gives the bytes again. The history goes on.
+    fn update(&mut self) -> Result<(), Difference> {
+        let before = self.now.both.reference.clone();
+        let old = older::re_expressed(&before);
+        let mut both = Both::new(&LENT);
+        let number = both.convert(&old)?;
+        conversions::count(self.counts, self.part, &old, &LENT, number);
+        if self.now.history.is_some() {
+            same("number of converting a gauge", number, 0)?;
+            same_bytes("converted bytes and those before the update", both.shipped.bytes(), &before)?;
+            self.now.both = both;
+            self.now.converted_run |= is_older(&old) && has_run(&self.now.history);
+        }
+        Ok(())
+    }
+
+    fn standing(&self) -> Option<Standing> {
+        self.now.history.as_ref().map(|history| Standing::of(history, &self.now.both.reference))
+    }
+
+    /// Compares the registers, and what the history says of the gauge.
+    fn same_standing(&self) -> Result<(), Difference> {
+        self.now.both.same_registers()?;
+        match &self.now.history {
+            Some(history) => self.now.both.same_history(history),
+            None => Ok(()),
+        }
+    }
+}

@@ -1,0 +1,32 @@
+-- "so a handset updated mid-drive goes on" (A1 of paper 02): what a conversion leaves, and demand 3 over it. Definitions only; assumes nothing.
+use mathlib.Core.List.{List}
+use mathlib.Core.Path.{_≡_}
+use Prim.Native.Nat.{ℕ, _<_}
+use lib.ListN.{getD, length}
+use Rattle.handset.specs.Calls.{convertBytes, convertNumber}
+use Rattle.history.specs.Call.{Call}
+use Rattle.history.specs.History.{afterCalls}
+use Rattle.refusals.specs.Refusal as Refusal
+use Rattle.saved.specs.EveryForm.{loadAnswer}
+use Rattle.saved.specs.Form.{formOf, newest, savedLength}
+use Rattle.saved.specs.Load.{answerIn}
+use Rattle.drive.specs.Claim.{HoldsHistory, begunIn}
+use Rattle.drive.specs.Drive.{bytesAfter}
+
+-- every call takes the bytes that a conversion leaves, and finds in them the gauge that the old bytes held
+abbrev pub Converted : Type 0
+Converted =
+    (old buffer : List ℕ) → ((k : ℕ) → getD old k 0 < 256) → convertNumber old (length buffer) ≡ Refusal.none
+    → answerIn newest (convertBytes old buffer) ≡ loadAnswer old
+
+-- bytes of the newest form come out the same
+abbrev pub ConvertedSame : Type 0
+ConvertedSame =
+    (saved buffer : List ℕ) → ((k : ℕ) → getD saved k 0 < 256) → (answerIn newest saved) .number ≡ Refusal.none → length buffer ≡ savedLength
+    → (convertNumber saved (length buffer) ≡ Refusal.none) × (convertBytes saved buffer ≡ saved)
+
+-- demand 3 from accepted bytes of any form, converted, for the history begun at what the old bytes held
+abbrev pub FromUpdate : Type 0
+FromUpdate =
+    (old buffer : List ℕ) → ((k : ℕ) → getD old k 0 < 256) → convertNumber old (length buffer) ≡ Refusal.none
+    → (calls : List Call) → HoldsHistory (bytesAfter calls (convertBytes old buffer)) (afterCalls calls (begunIn (formOf old) old))

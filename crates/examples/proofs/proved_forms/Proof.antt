@@ -1,0 +1,45 @@
+-- Each row holds by computation. Assumes nothing.
+use mathlib.Core.Path.{refl}
+use Rattle.charge.specs.Charge.{chargeAccepted, openedCharge}
+use Rattle.configuration.specs.Configuration.{openedMode}
+use Rattle.flags.specs.Byte.{flagsByte, flagsFit, flagsOf}
+use Rattle.gauge.specs.Accepted.{accepted}
+use Rattle.gauge.specs.Opening.{opened}
+use Rattle.grains.specs.Run.{runAccepted}
+use Rattle.host.specs.Host.{openedHost}
+use Rattle.sample.specs.Limits.{zeroOrWithin}
+use Rattle.sample.specs.Sample.{currentAccepted, noSample, sampleAccepted}
+use Rattle.saved.specs.EveryForm.{loadAnswer}
+use Rattle.saved.specs.Load.{acceptedAnswer, answerIn, formFits, loaded, loadedCharge, loadedHost, loadedSample, rejectedAnswer}
+use Rattle.saved.specs.Save.{fieldBytes, fieldsBytes, savedBytes}
+use Rattle.saved.specs.Signed.{currentOf, signedPair}
+use Rattle.standby.specs.Standby.{standbyAccepted}
+use Rattle.examples.proofs.proved_forms.Statement.{statement}
+use Rattle.examples.proofs.proved_forms.Tie as tie
+
+returns : tie.Need-returns
+unfolding chargeAccepted openedCharge openedMode flagsByte flagsFit flagsOf accepted opened runAccepted openedHost zeroOrWithin currentAccepted
+    noSample sampleAccepted loadAnswer acceptedAnswer answerIn formFits loaded loadedCharge loadedHost loadedSample rejectedAnswer fieldBytes
+    fieldsBytes savedBytes currentOf signedPair standbyAccepted
+returns c =
+    record {
+      length-41 = refl;
+      form-1-most = refl;
+      form-1-read = refl;
+      form-1-above = refl;
+      form-1-1020 = refl;
+      form-1-1021 = refl;
+      form-1-4096 = refl;
+      form-1-4097 = refl;
+      form-1-65535 = refl;
+      form-2-most = refl;
+      form-2-above = refl;
+      form-0 = refl;
+      form-3 = refl;
+      taken-2 = refl;
+      taken-1 = refl;
+      saved-2 = refl;
+    }
+
+pub proved-forms-spec : {M : Type 1} → statement M
+proved-forms-spec = tie.close (tie.spec returns)

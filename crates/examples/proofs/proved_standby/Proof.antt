@@ -1,0 +1,61 @@
+-- Each row holds by computation. Assumes nothing.
+use mathlib.Core.Path.{refl}
+use Rattle.charge.specs.Charge.{chargeAccepted, emptied, filled, heldMoved, leaked, moved, openedCharge, runMoved, withoutRun}
+use Rattle.charge.specs.Obeyed.{chargeObeyed, writtenNac}
+use Rattle.command.specs.Command.{decide, decideA9, highestCommandBit, isReset}
+use Rattle.compensation.specs.Compensation.{minutes}
+use Rattle.configuration.specs.Configuration.{openedMode}
+use Rattle.flags.specs.Flags.{clearedIf, flagsObeyed}
+use Rattle.gauge.specs.Accepted.{accepted}
+use Rattle.gauge.specs.Calls.{storedAt, windowAnswer, writeAnswer, writeRefusal, written}
+use Rattle.gauge.specs.Obey.{decided, obeyed}
+use Rattle.gauge.specs.Opening.{openAnswer, openRefusal, opened}
+use Rattle.gauge.specs.Window.{reachedIn, summed, window}
+use Rattle.grains.specs.Leak.{band, leak, leakRate, reached, weight}
+use Rattle.grains.specs.Run.{drained, runAccepted, unlessPassed}
+use Rattle.host.specs.Host.{commanded, commandsCleared, fullIf, hostObeyed, initCleared, openedHost, stored}
+use Rattle.reached.specs.Ending.{endingOf}
+use Rattle.reached.specs.Full.{isFull}
+use Rattle.reached.specs.Reached.{chargeEnded, chargeReached, filledIf, flagsEnded, reachedBy}
+use Rattle.registers.specs.Times.{stte}
+use Rattle.sample.specs.Current.{charge, counted, discharge}
+use Rattle.sample.specs.Limits.{zeroOrWithin}
+use Rattle.sample.specs.Range.{between, currentInRange, valueBetween}
+use Rattle.sample.specs.Sample.{currentAccepted, noSample, sampleAccepted, sampleReset}
+use Rattle.standby.specs.Standby.{averaged, shown, standbyAccepted, standbyReset}
+use Rattle.examples.specs.StandbyRows.{afterLoads}
+use Rattle.examples.proofs.proved_standby.Statement.{statement}
+use Rattle.examples.proofs.proved_standby.Tie as tie
+
+returns : tie.Need-returns
+unfolding chargeAccepted emptied filled heldMoved leaked moved openedCharge runMoved withoutRun chargeObeyed writtenNac decide decideA9
+    highestCommandBit isReset minutes openedMode clearedIf flagsObeyed accepted storedAt windowAnswer writeAnswer writeRefusal written decided
+    obeyed openAnswer openRefusal opened reachedIn summed window band leak leakRate reached weight drained runAccepted unlessPassed
+    commanded commandsCleared fullIf hostObeyed initCleared openedHost stored endingOf isFull chargeEnded chargeReached filledIf flagsEnded reachedBy
+    stte charge counted discharge zeroOrWithin between currentInRange valueBetween currentAccepted noSample sampleAccepted sampleReset averaged
+    shown standbyAccepted standbyReset afterLoads
+returns c =
+    record {
+      opened-480 = refl;
+      opened-30 = refl;
+      load-490 = refl;
+      load-31 = refl;
+      load-39 = refl;
+      settled-625 = refl;
+      settled-40 = refl;
+      stays-625 = refl;
+      above-640 = refl;
+      above-40 = refl;
+      above-41 = refl;
+      half-nac = refl;
+      half-stte = refl;
+      none-0 = refl;
+      none-stays = refl;
+      none-shown = refl;
+      none-stte = refl;
+      prst-480 = refl;
+      frst-480 = refl;
+    }
+
+pub proved-standby-spec : {M : Type 1} → statement M
+proved-standby-spec = tie.close (tie.spec returns)

@@ -1,0 +1,2 @@
+// The standby current.
+pub mod standby;

@@ -1,0 +1,30 @@
+/* What the two example programs share: the gauge's bytes, calls that have to succeed, and registers shown. */
+#ifndef FIRMWARE_H
+#define FIRMWARE_H
+
+#include "gauge.h"
+
+/* The gauge itself. On a handset these bytes lie in RAM that is copied to flash or battery-backed memory. */
+extern uint8_t saved[GAUGE_SAVED_LENGTH];
+
+/* For calls whose arguments the program itself chose: a refusal is then a mistake in the program, and ends it. */
+void must(const char *call, uint32_t number);
+
+void windows(unsigned count, int32_t current, int32_t voltage, int32_t temperature);
+
+/* The registers that the programs show. */
+struct shown {
+    unsigned nac, lmd, rsoc, flags, cac, tte, si, stte;
+};
+
+struct shown shown_read(void);
+void shown_heading(void);
+void shown_print(const char *moment, const struct shown *shown);
+
+/* Reads and prints them. */
+void show(const char *moment);
+
+/* Prints a call's number and whether the bytes it was given are as they were before it. */
+void show_refusal(const char *call, uint32_t number, const uint8_t *gauge, const uint8_t *before);
+
+#endif

@@ -1,0 +1,31 @@
+/* A gauge in each older form of the saved bytes, as the version that had this form kept it. For programs that try gauge_convert. */
+#ifndef OLDER_FORMS_H
+#define OLDER_FORMS_H
+
+#include <stdint.h>
+
+/*
+ * Form 1: what version 1.0.0 kept of the bench pack in the middle of a drive, after these calls:
+ *   gauge_open;
+ *   1 window of 20, 4150, 1192: full by taper, so a run begins;
+ *   100 windows of -2800, 3650, 1200;
+ *   AR written by the host: 1000;
+ *   40 windows of -5, 3800, 1196: standby, which brings SI from 10 to 5;
+ *   20 windows of -2800, 3650, 1200.
+ */
+static const uint8_t kept_form_1[] = {
+    0x01,                                                       /* form */
+    0x04, 0x5E, 0x77, 0x05, 0x21, 0x10, 0x00, 0x00, 0x6C, 0x15, /* configuration */
+    0x48, 0x7D, 0x2F, 0x28, 0x11, 0x00, 0x00, 0x00,             /* charge, grains: NAC 545 */
+    0xB8, 0x82, 0x8F, 0x07, 0x0F, 0x00, 0x00, 0x00,             /* drain of the run, grains */
+    0x00, 0x04,                                                 /* LMD 1024 */
+    0x05, 0x00,                                                 /* SI 5, in whole units */
+    0x10, 0xF5,                                                 /* current -2800 */
+    0x42, 0x0E,                                                 /* VOLT 3650 */
+    0xB0, 0x04,                                                 /* TEMP 1200 */
+    0xE8, 0x03,                                                 /* AR 1000 */
+    0x40,                                                       /* MODE */
+    0x14,                                                       /* FLAGS: CI, VDQ */
+};
+
+#endif

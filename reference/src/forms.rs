@@ -1,0 +1,79 @@
+//! The forms of the saved bytes as they are read (paper 01, "Saved gauge"; paper 02, A1).
+//!
+//! Each form reads its fields, holds them to its own conditions and carries them over to the gauge. A new form is one more function
+//! and one more row of `held`; the older ones keep their text.
+//!
+//! Every form begins with the 41 bytes of paper 01: form at 0; configuration at 1; h at 11 and DCR at 19, 8 bytes each; LMD at 27, SI
+//! at 29, c at 31, VOLT at 33, TEMP at 35 and AR at 37, 2 bytes each; MODE at 39; FLAGS at 40. Numbers stand low byte first.
+
+use crate::acceptance;
+use crate::configuration::Configuration;
+use crate::gauge::{Gauge, SIXTEENTHS};
+use crate::refusal;
+
+/// The bytes that every form begins with.
+type First = [u8; 41];
+
+/// Loading: the gauge that bytes of any form hold, carried over, or 14.
+pub fn load(saved: &[u8]) -> Result<Gauge, u32> {
+    held(saved).ok_or(refusal::SAVED)
+}
+
+/// By the form, which is the first byte. None for a number that is no form, a length that is not the form's, or a broken condition.
+fn held(saved: &[u8]) -> Option<Gauge> {
+    match saved.first()? {
+        1 => form_1(saved.try_into().ok()?),
+        2 => form_2(saved.try_into().ok()?),
+        _ => None,
+    }
+}
+
+/// SI in units, at most 2 × S0. The number as it was stored is held to that, and the product is wider than two bytes: none wraps.
+fn form_1(saved: &First) -> Option<Gauge> {
+    let units = si(saved);
+    let gauge = first(saved, SIXTEENTHS * units)?;
+    (units <= gauge.configuration.standby_limit()).then_some(gauge)
+}
+
+/// SI in sixteenths, at most 32 × S0 (paper 02, A1).
+fn form_2(saved: &First) -> Option<Gauge> {
+    let sixteenths = si(saved);
+    let gauge = first(saved, sixteenths)?;
+    (sixteenths <= SIXTEENTHS * gauge.configuration.standby_limit()).then_some(gauge)
+}
+
+/// The two bytes of SI, whose unit is the form's own.
+fn si(saved: &First) -> i32 {
+    pair(saved, 29)
+}
+
+/// The gauge of the first 41 bytes with the SI that its form makes of them. None if a condition is broken that all forms have.
+/// Always inlined: handed back by a call of its own, the gauge would be copied once more in every call of the handset.
+#[inline(always)]
+fn first(saved: &First, si_sixteenths: i32) -> Option<Gauge> {
+    let gauge = Gauge {
+        configuration: Configuration::new(&saved[1..11]).ok()?,
+        h: grains(saved, 11),
+        dcr: grains(saved, 19),
+        lmd: pair(saved, 27),
+        si_sixteenths,
+        c: i32::from(i16::from_le_bytes([saved[31], saved[32]])),
+        volt: pair(saved, 33),
+        temp: pair(saved, 35),
+        ar: pair(saved, 37),
+        mode: saved[39],
+        flags: saved[40],
+    };
+    acceptance::accepted(&gauge).then_some(gauge)
+}
+
+fn pair(saved: &First, at: usize) -> i32 {
+    i32::from(u16::from_le_bytes([saved[at], saved[at + 1]]))
+}
+
+/// Eight bytes as a signed number: what would be 2^63 or more as a charge comes out below 0 and is refused for that.
+fn grains(saved: &First, at: usize) -> i64 {
+    let mut bytes = [0; 8];
+    bytes.copy_from_slice(&saved[at..at + 8]);
+    i64::from_le_bytes(bytes)
+}
