@@ -7,6 +7,7 @@ use Rattle.flags.specs.Byte.{flagsOf, vdqOf}
 use Rattle.gauge.specs.declared.state.Gauge.{Gauge}
 use Rattle.numbers.specs.Little.{bytesAt, numberAt}
 use Rattle.refusals.specs.Refusal as Refusal
+use Rattle.registers.specs.Values.{si}
 use Rattle.saved.specs.EveryForm.{loadAnswer}
 use Rattle.saved.specs.Signed.{currentOf}
 
@@ -28,3 +29,8 @@ gaugeOfForm1 bytes =
 
 abbrev pub Form1Reads : Type 0
 Form1Reads = (bytes : List ℕ) → numberAt 1 0 bytes ≡ 1 → (loadAnswer bytes) .number ≡ Refusal.none → (loadAnswer bytes) .gauge ≡ gaugeOfForm1 bytes
+
+-- and SI shows what form 1 held, until a light load moves it
+abbrev pub Form1Shows : Type 0
+Form1Shows =
+    (bytes : List ℕ) → numberAt 1 0 bytes ≡ 1 → (loadAnswer bytes) .number ≡ Refusal.none → si ((loadAnswer bytes) .gauge) ≡ numberAt 2 29 bytes

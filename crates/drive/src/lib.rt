@@ -1,6 +1,6 @@
 // Demand 3 said of the saved bytes and the calls from C. The functions do nothing; their contracts are the claims.
 ghost use Rattle.drive.specs.Claim.{EveryDrive, FromOpening, FromSaved};
-ghost use Rattle.drive.specs.OlderForms.{Form1Reads};
+ghost use Rattle.drive.specs.OlderForms.{Form1Reads, Form1Shows};
 ghost use Rattle.drive.specs.Update.{Converted, ConvertedSame, FromUpdate};
 
 pub fn every_drive()
@@ -17,6 +17,10 @@ pub fn from_saved()
 
 pub fn form_1_reads()
     ensures { λ _. ⌜ Form1Reads ⌝ }
+{}
+
+pub fn form_1_shows()
+    ensures { λ _. ⌜ Form1Shows ⌝ }
 {}
 
 pub fn converted()
