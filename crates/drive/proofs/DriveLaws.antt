@@ -2,11 +2,10 @@
 -- Assumes nothing.
 use mathlib.Core.Bool.{Bool, true, false, cond}
 use mathlib.Core.List.{List, [], _∷_}
-use mathlib.Core.Path.{_≡_, refl, sym, ap, _∙_}
-use Prim.Native.Nat.{ℕ, _<_}
-use native.Mathlib.Omega.{arith}
+use mathlib.Core.Path.{_≡_, refl}
+use Prim.Native.Nat.{ℕ}
 use lib.Dec.{eqb}
-use lib.ListN.{getD, length}
+use lib.ListN.{length}
 use borrow.Author.Tests.{eqb-true}
 use Rattle.gauge.specs.Answer.{answered}
 use Rattle.gauge.specs.Calls.{restAnswer, windowAnswer, writeAnswer}
@@ -50,7 +49,7 @@ unfolding callBytes callNumber
 call-bytes g next n call e a = rw (e, a) (either (eqb n 0) next g)
 
 module _ (g : Gauge) (k : Taken g) where
-  step-bytes : (call : Call) → calledBytes call (savedBytes g) ≡ savedBytes (gaugeAfter call g)
+  pub step-bytes : (call : Call) → calledBytes call (savedBytes g) ≡ savedBytes (gaugeAfter call g)
   unfolding calledBytes gaugeAfter windowAnswer restAnswer writeAnswer
   step-bytes (Call.window a v t) = call-bytes g _ _ (windowCall a v t) (loads g k) refl
   step-bytes (Call.rest n t) = call-bytes g _ _ (restCall n t) (loads g k) refl

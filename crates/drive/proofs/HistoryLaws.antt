@@ -1,8 +1,7 @@
 -- The bytes that a list of calls leaves are those of a gauge that agrees with the history, and each field read back from them is the
 -- gauge's. Assumes nothing.
 use mathlib.Core.List.{List}
-use mathlib.Core.Path.{_≡_, refl, sym, ap, _∙_}
-use Prim.Native.Nat.{ℕ}
+use mathlib.Core.Path.{_≡_, ap, _∙_}
 use lib.IntN.{pos}
 use lib.ListN.{length}
 use Rattle.charge.specs.declared.charge.Charge.{Charge}
@@ -25,7 +24,7 @@ charge-back : (g : Gauge) → Taken g → loadedCharge newest (savedBytes g) ≡
 unfolding loaded
 charge-back g k = ap (λ (x : Gauge). x .charge) (loaded-is (savedBytes g) g (loads g k))
 
-gauge-holds : (g : Gauge) (x : History) → Taken g → Agrees g x → HoldsHistory (savedBytes g) x
+pub gauge-holds : (g : Gauge) (x : History) → Taken g → Agrees g x → HoldsHistory (savedBytes g) x
 unfolding loadedCharge
 gauge-holds g x k a =
     let c = charge-back g k in
@@ -36,7 +35,7 @@ gauge-holds g x k a =
       numbers = λ call. step-numbers g k call ∙ a .refused call;
     }
 
-pub list-holds : (calls : List Call) (g : Gauge) → Taken g → HoldsHistory (bytesAfter calls (savedBytes g)) (afterCalls calls (begun g))
+list-holds : (calls : List Call) (g : Gauge) → Taken g → HoldsHistory (bytesAfter calls (savedBytes g)) (afterCalls calls (begun g))
 list-holds calls g k =
     rw (list-bytes calls g k) (gauge-holds (after calls g) (afterCalls calls (begun g)) (list-taken calls g k) (from-any-gauge g k calls))
 

@@ -1,6 +1,5 @@
 -- Bytes of an older form load as its fields say. Assumes nothing.
 use mathlib.Core.Path.{_≡_, sym, ap, _∙_}
-use Prim.Native.Nat.{ℕ}
 use lib.ListN.{getD}
 use Rattle.gauge.specs.declared.answer.Answer.{Answer}
 use Rattle.gauge.specs.declared.state.Gauge.{Gauge}

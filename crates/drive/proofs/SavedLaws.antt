@@ -1,19 +1,18 @@
 -- Accepted bytes of a form hold a gauge of the widths that every gauge has, and a history begins at what they hold as at that gauge; bytes of the
 -- newest form are the bytes of that gauge. Assumes nothing.
 use mathlib.Core.Bool.{Bool, true, false, cond}
-use mathlib.Core.List.{List, [], _∷_}
+use mathlib.Core.List.{List}
 use mathlib.Core.Path.{_≡_, refl, sym, ap, _∙_}
-use Prim.Native.Nat.{ℕ, zero, suc, _+_, _*_, _≤_, _<_}
+use Prim.Native.Nat.{ℕ, zero, suc, _<_}
 use native.Mathlib.Omega.{arith}
 use lib.Dec.{eqb}
 use lib.ListN.{getD, length}
 use Rattle.gauge.specs.Accepted.{accepted}
-use Rattle.gauge.specs.Fits.{TenBytes}
 use Rattle.gauge.specs.declared.answer.Answer.{Answer}
 use Rattle.gauge.specs.declared.state.Gauge.{Gauge}
 use Rattle.gauge.proofs.AcceptedLaws.{sound}
 use Rattle.history.specs.Claim.{Taken, begun}
-use Rattle.history.proofs.Standing.{Standing, taken}
+use Rattle.history.proofs.Standing.{taken}
 use Rattle.numbers.specs.Little.{bytesAt, numberAt}
 use Rattle.numbers.proofs.LittleLaws.{number-fits}
 use Rattle.refusals.specs.Refusal as Refusal

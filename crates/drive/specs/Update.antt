@@ -1,8 +1,8 @@
 -- "so a handset updated mid-drive goes on" (A1 of paper 02): what a conversion leaves, and demand 3 over it. Definitions only; assumes nothing.
-use mathlib.Core.List.{List}
+use mathlib.Core.List.{List, [], _∷_}
 use mathlib.Core.Path.{_≡_}
 use Prim.Native.Nat.{ℕ, _<_}
-use lib.ListN.{getD, length}
+use lib.ListN.{getD, length, replicate}
 use Rattle.handset.specs.Calls.{convertBytes, convertNumber}
 use Rattle.history.specs.Call.{Call}
 use Rattle.history.specs.History.{afterCalls}
@@ -11,7 +11,9 @@ use Rattle.saved.specs.EveryForm.{loadAnswer}
 use Rattle.saved.specs.Form.{formOf, newest, savedLength}
 use Rattle.saved.specs.Load.{answerIn}
 use Rattle.drive.specs.Claim.{HoldsHistory, begunIn}
-use Rattle.drive.specs.Drive.{bytesAfter}
+use Rattle.drive.specs.Drive.{calledBytes}
+
+-- ---- what a conversion leaves
 
 -- every call takes the bytes that a conversion leaves, and finds in them the gauge that the old bytes held
 abbrev pub Converted : Type 0
@@ -25,8 +27,30 @@ ConvertedSame =
     (saved buffer : List ℕ) → ((k : ℕ) → getD saved k 0 < 256) → (answerIn newest saved) .number ≡ Refusal.none → length buffer ≡ savedLength
     → (convertNumber saved (length buffer) ≡ Refusal.none) × (convertBytes saved buffer ≡ saved)
 
--- demand 3 from accepted bytes of any form, converted, for the history begun at what the old bytes held
+-- ---- demand 3 over an update
+
+-- what a handset does: calls, and starts, at each of which it converts the bytes that it kept
+pub data Step : Type 0 where
+  make : Call → Step
+  start : Step
+
+unfoldable pub stepBytes : Step → List ℕ → List ℕ
+stepBytes (make call) saved = calledBytes call saved
+stepBytes start saved = convertBytes saved (replicate savedLength 0)
+
+unfoldable pub bytesAfterSteps : List Step → List ℕ → List ℕ
+bytesAfterSteps [] saved = saved
+bytesAfterSteps (step ∷ steps) saved = bytesAfterSteps steps (stepBytes step saved)
+
+-- the history knows no starts
+unfoldable pub callsOf : List Step → List Call
+callsOf [] = []
+callsOf (make call ∷ steps) = call ∷ callsOf steps
+callsOf (start ∷ steps) = callsOf steps
+
+-- from accepted bytes of any form, converted: every list of calls, and starts anywhere among them, holds the history begun at what the old bytes
+-- held
 abbrev pub FromUpdate : Type 0
 FromUpdate =
     (old buffer : List ℕ) → ((k : ℕ) → getD old k 0 < 256) → convertNumber old (length buffer) ≡ Refusal.none
-    → (calls : List Call) → HoldsHistory (bytesAfter calls (convertBytes old buffer)) (afterCalls calls (begunIn (formOf old) old))
+    → (steps : List Step) → HoldsHistory (bytesAfterSteps steps (convertBytes old buffer)) (afterCalls (callsOf steps) (begunIn (formOf old) old))

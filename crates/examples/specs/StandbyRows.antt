@@ -1,6 +1,5 @@
 -- "Standby current that settles", A1 of paper 02: its own example and the rules beside it, each row worked out by hand. Definitions only;
 -- assumes nothing.
-use mathlib.Core.List.{List}
 use mathlib.Core.Path.{_≡_}
 use Prim.Native.Nat.{ℕ, zero, suc}
 use lib.IntN.{pos, negsuc}

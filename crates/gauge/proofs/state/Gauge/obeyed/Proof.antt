@@ -1,6 +1,6 @@
 -- The parts, put together. Assumes nothing.
 use mathlib.Core.Bool.{Bool}
-use mathlib.Core.Path.{_≡_, ap, _∙_}
+use mathlib.Core.Path.{ap, _∙_}
 use Rattle.configuration.specs.Configuration.{s0}
 use Rattle.sample.specs.Sample.{sampleReset}
 use Rattle.standby.specs.Standby.{standbyReset}
