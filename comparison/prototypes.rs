@@ -3,23 +3,17 @@
 //! What stands in the header outside of comments, preprocessor lines, enumerations and functions with a body has to be a prototype
 //! that is understood in full. So none is passed over.
 
-/// A call and its parameters as Rust writes them: `saved: *mut u8, saved_length: usize`. Every call answers a `u32`.
+/// A call and its parameters as Rust writes them: `saved: *mut u8, saved_length: usize, command: &mut u8`. Every call answers a `u32`.
 pub struct Prototype {
     pub name: String,
     pub parameters: String,
 }
 
-const TYPES: [(&str, &str); 9] = [
-    ("const uint8_t *", "*const u8"),
-    ("uint8_t *", "*mut u8"),
-    ("uint16_t *", "*mut u16"),
-    ("int32_t *", "*mut i32"),
-    ("size_t", "usize"),
-    ("uint8_t", "u8"),
-    ("uint16_t", "u16"),
-    ("uint32_t", "u32"),
-    ("int32_t", "i32"),
-];
+/// The pointer of a slice of bytes. The length comes after it, a `size_t` of its name.
+const POINTERS: [(&str, &str); 2] = [("const uint8_t *", "*const u8"), ("uint8_t *", "*mut u8")];
+
+/// A number, by itself or, as a pointer without a length after it, lent.
+const NUMBERS: [(&str, &str); 4] = [("uint8_t", "u8"), ("uint16_t", "u16"), ("uint32_t", "u32"), ("int32_t", "i32")];
 
 /// The prototypes in the header's order, or what is not understood.
 pub fn read(header: &str) -> Result<Vec<Prototype>, String> {
@@ -97,9 +91,15 @@ fn spaced(text: &str) -> String {
 
 fn prototype(declaration: &str) -> Result<Prototype, String> {
     let (name, list) = parts(declaration).ok_or_else(|| format!("`{declaration}` is not understood"))?;
+    let mut texts = list.split(',').map(str::trim).peekable();
     let mut parameters = Vec::new();
-    for text in list.split(',').map(str::trim) {
-        parameters.push(parameter(text).ok_or_else(|| format!("parameter `{text}` of {name} is not understood"))?);
+    while let Some(text) = texts.next() {
+        let slice = texts.peek().and_then(|next| slice(text, next));
+        if slice.is_some() {
+            texts.next();
+        }
+        let parameter = slice.or_else(|| number(text));
+        parameters.push(parameter.ok_or_else(|| format!("parameter `{text}` of {name} is not understood"))?);
     }
     Ok(Prototype { name: name.to_string(), parameters: parameters.join(", ") })
 }
@@ -111,11 +111,30 @@ fn parts(declaration: &str) -> Option<(&str, &str)> {
     (name.starts_with("gauge_") && name.chars().all(is_of_a_name)).then_some((name, list))
 }
 
-fn parameter(text: &str) -> Option<String> {
+/// A slice of bytes, which is two parameters: `uint8_t *reply`, `size_t reply_length`.
+fn slice(text: &str, next: &str) -> Option<String> {
+    let (type_in_c, name) = type_and_name(text)?;
+    let pointer = in_rust(&POINTERS, type_in_c)?;
+    (next == format!("size_t {name}_length")).then(|| format!("{name}: {pointer}, {name}_length: usize"))
+}
+
+/// A number, or a lent one: `uint8_t *command`.
+fn number(text: &str) -> Option<String> {
+    let (type_in_c, name) = type_and_name(text)?;
+    match type_in_c.strip_suffix(" *") {
+        Some(of_number) => in_rust(&NUMBERS, of_number).map(|number| format!("{name}: &mut {number}")),
+        None => in_rust(&NUMBERS, type_in_c).map(|number| format!("{name}: {number}")),
+    }
+}
+
+fn type_and_name(text: &str) -> Option<(&str, &str)> {
     let before = text.rfind(|character| !is_of_a_name(character))? + 1;
     let (type_in_c, name) = text.split_at(before);
-    let (_, type_in_rust) = TYPES.iter().find(|(in_c, _)| *in_c == type_in_c.trim())?;
-    (!name.is_empty()).then(|| format!("{name}: {type_in_rust}"))
+    (!name.is_empty()).then_some((type_in_c.trim(), name))
+}
+
+fn in_rust(types: &[(&str, &'static str)], type_in_c: &str) -> Option<&'static str> {
+    types.iter().find(|(in_c, _)| *in_c == type_in_c).map(|&(_, in_rust)| in_rust)
 }
 
 fn is_of_a_name(character: char) -> bool {

@@ -1,5 +1,5 @@
 /*
- * The battery gauge's six calls for C (C99 and later) and C++ firmware.
+ * The battery gauge's seven calls for C (C99 and later) and C++ firmware.
  *
  * The firmware owns the gauge: 41 bytes that it keeps in RAM and copies to non-volatile memory as it likes. Every call
  * gets those bytes and keeps nothing between calls: no writable static data, no allocation. So a gauge may be copied, and two
@@ -7,7 +7,8 @@
  *
  * Every call answers 0 (GAUGE_OK) or one number of enum gauge_refusal. A refused call changes no byte of any buffer.
  * No argument needs a test beforehand, with one exception: a pointer must be valid for the length handed in with it, also
- * where that length is wrong for the call, must not be null, and the two buffers of one call must not overlap.
+ * where that length is wrong for the call, a pointer to a single number for that number, none may be null, and the buffers of one
+ * call, such a number among them, must not overlap.
  *
  * Units: a unit of current is 3.57 uV over the sense resistor, a count of charge 3.57 uVh, a voltage is in mV, a temperature in
  * quarter kelvins, 4 * (degrees Celsius + 273): 25 degrees are 1192. 3.57 divided by the sense resistor in milliohms is the mA of a
@@ -24,8 +25,8 @@ extern "C" {
 #endif
 
 /* The version of the calls and of this file; a new minor one adds, a new major one changes. */
-#define GAUGE_VERSION "2.0.0"
-#define GAUGE_VERSION_NUMBER 20000 /* 10000 * major + 100 * minor + the rest */
+#define GAUGE_VERSION "2.1.0"
+#define GAUGE_VERSION_NUMBER 20100 /* 10000 * major + 100 * minor + the rest */
 
 /* The form of the saved bytes, which is their first byte. gauge_convert also reads the older ones, from GAUGE_FORM_OLDEST on. */
 #define GAUGE_FORM 2
@@ -57,7 +58,7 @@ enum gauge_refusal {
     GAUGE_REFUSED_NOT_CARRIED = 10,         /* the command does not belong to this key */
     GAUGE_REFUSED_LMD_ZERO = 11,            /* WRTLMD with AR 0 */
     GAUGE_REFUSED_COUNT = 12,               /* count 0, or address + count above 128 */
-    GAUGE_REFUSED_REPLY = 13,               /* place + count beyond the reply; opening, converting: saved not 41 bytes */
+    GAUGE_REFUSED_REPLY = 13,               /* place + count beyond the reply; previewing: reply not 128 bytes; opening, converting: saved not 41 */
     GAUGE_REFUSED_SAVED = 14                /* the saved bytes are no gauge: damaged, cleared, of another length or form */
 };
 
@@ -121,6 +122,15 @@ enum gauge_key {
     GAUGE_KEY_WRTLMD = 0x56
 };
 
+/* The command that gauge_preview says a key would obey. */
+enum gauge_command_number {
+    GAUGE_COMMAND_WRTNAC = 1,
+    GAUGE_COMMAND_DONE = 2,
+    GAUGE_COMMAND_PRST = 3,
+    GAUGE_COMMAND_FRST = 4,
+    GAUGE_COMMAND_WRTLMD = 5
+};
+
 /*
  * Makes a new gauge from the ten configuration bytes (order 0x76 to 0x7F): empty, LMD = 256 * ILMD, CI set, nothing measured.
  * Success fills the 41 bytes at saved; what stood there does not matter.
@@ -166,6 +176,16 @@ uint32_t gauge_write(uint8_t *saved, size_t saved_length, uint32_t address, uint
 uint32_t gauge_read(const uint8_t *saved, size_t saved_length, uint32_t address, uint32_t count, uint8_t *reply,
                     size_t reply_length, uint32_t place);
 
+/*
+ * What a key at CTRL would do, without doing it: the command that it would obey goes to *command, a number of enum
+ * gauge_command_number, and all 128 registers as they would read after it go to reply: MODE with its command bits cleared, CTRL 0.
+ * MODE and AR are written beforehand, as for the command itself. saved is only read; gauge_write of the same key to CTRL then answers
+ * the same number and leaves these registers. After a refusal *command keeps its value too.
+ * Refuses, in this order: 14, 8, 9, 10, 11, 13 (of a reply that is not 128 bytes).
+ */
+uint32_t gauge_preview(const uint8_t *saved, size_t saved_length, uint8_t key, uint8_t *reply, size_t reply_length,
+                       uint8_t *command);
+
 /* The bytes of a gauge saved in a form, which gauge_convert asks of old_length; 0 for a number that is no form of this version. */
 static inline size_t gauge_form_length(uint8_t form)
 {
@@ -182,6 +202,25 @@ static inline size_t gauge_form_length(uint8_t form)
 static inline unsigned gauge_pair(const uint8_t *low)
 {
     return low[0] + 256u * low[1];
+}
+
+/* The name of a command that gauge_preview handed out, as in the bqJUNIOR data sheet. */
+static inline const char *gauge_command_name(uint8_t command)
+{
+    switch (command) {
+    case GAUGE_COMMAND_WRTNAC:
+        return "WRTNAC";
+    case GAUGE_COMMAND_DONE:
+        return "DONE";
+    case GAUGE_COMMAND_PRST:
+        return "PRST";
+    case GAUGE_COMMAND_FRST:
+        return "FRST";
+    case GAUGE_COMMAND_WRTLMD:
+        return "WRTLMD";
+    default:
+        return "no command";
+    }
 }
 
 /* What a call's number means, in a few words. */

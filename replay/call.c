@@ -16,18 +16,24 @@ const struct call_form call_forms[CALL_KINDS] = {
     [CALL_REST] = {"rest", 2, {UNSIGNED("N", UINT32_MAX), SIGNED("T")}},
     [CALL_WRITE] = {"write", 2, {EITHER("ADDRESS", UINT32_MAX, true), EITHER("BYTE", UINT8_MAX, true)}},
     [CALL_READ] = {"read", 2, {EITHER("ADDRESS", UINT32_MAX, true), EITHER("COUNT", UINT32_MAX, false)}},
-    [CALL_NAC] = {"nac", 1, {UNSIGNED("N", UINT16_MAX)}},
-    [CALL_LMD] = {"lmd", 1, {UNSIGNED("N", UINT16_MAX)}},
-    [CALL_DONE] = {.word = "done"},
-    [CALL_RESET] = {.word = "reset"},
-    [CALL_PARTIAL] = {.word = "partial"},
+    [CALL_PREVIEW] = {"preview", 1, {EITHER("KEY", UINT8_MAX, true)}},
+    [CALL_NAC] = {"nac", 1, {UNSIGNED("N", UINT16_MAX)}, .is_command = true},
+    [CALL_LMD] = {"lmd", 1, {UNSIGNED("N", UINT16_MAX)}, .is_command = true},
+    [CALL_DONE] = {.word = "done", .is_command = true},
+    [CALL_RESET] = {.word = "reset", .is_command = true},
+    [CALL_PARTIAL] = {.word = "partial", .is_command = true},
 };
+
+const char *call_prefix(const struct call *call)
+{
+    return call->previewed && call->kind != CALL_PREVIEW ? "preview " : "";
+}
 
 void call_print(const struct call *call)
 {
     const struct call_form *form = &call_forms[call->kind];
 
-    fputs(form->word, stdout);
+    printf("%s%s", call_prefix(call), form->word);
     for (size_t i = 0; i < form->count; i++)
         if (form->numbers[i].shown_hexadecimal)
             printf(" 0x%02" PRIX64, (uint64_t)call->numbers[i]);

@@ -13,6 +13,7 @@ enum call_kind {
     CALL_REST,
     CALL_WRITE,
     CALL_READ,
+    CALL_PREVIEW,
     CALL_NAC,
     CALL_LMD,
     CALL_DONE,
@@ -29,9 +30,13 @@ struct place {
     size_t line;
 };
 
-/* numbers are within the ranges of call_forms; bytes, of open and load alone, are at least one. */
+/*
+ * numbers are within the ranges of call_forms; bytes, of open and load alone, are at least one. A preview of a key is a CALL_PREVIEW, that of a
+ * command has the command's kind.
+ */
 struct call {
     enum call_kind kind;
+    bool previewed; /* it is shown what the call would do, and nothing is done */
     struct place place;
     int64_t numbers[CALL_NUMBERS_MAX];
     const uint8_t *bytes;
@@ -51,10 +56,14 @@ struct call_form {
     const char *word;
     size_t count;
     struct number_form numbers[CALL_NUMBERS_MAX];
+    bool is_command;
 };
 
 /* By kind. */
 extern const struct call_form call_forms[CALL_KINDS];
+
+/* What stands before the word of a call: the word of a preview before that of a command, else nothing. */
+const char *call_prefix(const struct call *call);
 
 /* Prints the call in its one normal form. */
 void call_print(const struct call *call);

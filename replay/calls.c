@@ -25,37 +25,56 @@ static uint32_t write_value(uint8_t *saved, unsigned value)
     return gauge_write(saved, GAUGE_SAVED_LENGTH, GAUGE_REG_AR + 1, (uint8_t)(value / 256));
 }
 
-static uint32_t write_command(uint8_t *saved, const struct command *command)
+static uint32_t write_mode(uint8_t *saved, uint8_t bit)
 {
     uint8_t mode;
     uint32_t number = gauge_read(saved, GAUGE_SAVED_LENGTH, GAUGE_REG_MODE, 1, &mode, 1, 0);
 
     if (number != GAUGE_OK)
         return number;
-    mode = (uint8_t)((mode & ~GAUGE_MODE_COMMAND_BITS) | command->bit);
-    number = gauge_write(saved, GAUGE_SAVED_LENGTH, GAUGE_REG_MODE, mode);
-    if (number != GAUGE_OK)
-        return number;
-    return gauge_write(saved, GAUGE_SAVED_LENGTH, GAUGE_REG_CTRL, command->key);
+    mode = (uint8_t)((mode & ~GAUGE_MODE_COMMAND_BITS) | bit);
+    return gauge_write(saved, GAUGE_SAVED_LENGTH, GAUGE_REG_MODE, mode);
+}
+
+/* A copy of the saved bytes with AR and MODE as the host writes them before the command's key. */
+static uint32_t prepare(const uint8_t *saved, const struct command *command, unsigned value, uint8_t copy[GAUGE_SAVED_LENGTH])
+{
+    uint32_t number = GAUGE_OK;
+
+    memcpy(copy, saved, GAUGE_SAVED_LENGTH);
+    if (command->takes_value)
+        number = write_value(copy, value);
+    return number != GAUGE_OK ? number : write_mode(copy, command->bit);
 }
 
 /* Several writes, refused as one: they work on a copy, so a key that is refused leaves AR and MODE as they were. */
 static uint32_t give_command(uint8_t *saved, const struct command *command, unsigned value)
 {
     uint8_t copy[GAUGE_SAVED_LENGTH];
-    uint32_t number = GAUGE_OK;
+    uint32_t number = prepare(saved, command, value, copy);
 
-    memcpy(copy, saved, sizeof copy);
-    if (command->takes_value)
-        number = write_value(copy, value);
     if (number == GAUGE_OK)
-        number = write_command(copy, command);
+        number = gauge_write(copy, sizeof copy, GAUGE_REG_CTRL, command->key);
     if (number == GAUGE_OK)
         memcpy(saved, copy, sizeof copy);
     return number;
 }
 
-static uint32_t make(const struct call *call, uint8_t *saved, uint8_t *reply)
+static uint32_t preview_key(const uint8_t *saved, uint8_t key, struct reply *reply)
+{
+    return gauge_preview(saved, GAUGE_SAVED_LENGTH, key, reply->registers, sizeof reply->registers, &reply->command);
+}
+
+/* AR and MODE too are written on the copy alone. */
+static uint32_t preview_command(const uint8_t *saved, const struct command *command, unsigned value, struct reply *reply)
+{
+    uint8_t copy[GAUGE_SAVED_LENGTH];
+    uint32_t number = prepare(saved, command, value, copy);
+
+    return number != GAUGE_OK ? number : preview_key(copy, command->key, reply);
+}
+
+static uint32_t make(const struct call *call, uint8_t *saved, struct reply *reply)
 {
     const int64_t *numbers = call->numbers;
 
@@ -71,13 +90,18 @@ static uint32_t make(const struct call *call, uint8_t *saved, uint8_t *reply)
     case CALL_WRITE:
         return gauge_write(saved, GAUGE_SAVED_LENGTH, (uint32_t)numbers[0], (uint8_t)numbers[1]);
     case CALL_READ:
-        return gauge_read(saved, GAUGE_SAVED_LENGTH, (uint32_t)numbers[0], (uint32_t)numbers[1], reply, GAUGE_REGISTERS, 0);
+        return gauge_read(saved, GAUGE_SAVED_LENGTH, (uint32_t)numbers[0], (uint32_t)numbers[1], reply->registers,
+                          sizeof reply->registers, 0);
+    case CALL_PREVIEW:
+        return preview_key(saved, (uint8_t)numbers[0], reply);
     default:
+        if (call->previewed)
+            return preview_command(saved, &commands[call->kind], (unsigned)numbers[0], reply);
         return give_command(saved, &commands[call->kind], (unsigned)numbers[0]);
     }
 }
 
-uint32_t call_make(const struct call *call, struct run *run, uint8_t reply[GAUGE_REGISTERS])
+uint32_t call_make(const struct call *call, struct run *run, struct reply *reply)
 {
     uint32_t number = make(call, run->saved, reply);
 

@@ -10,10 +10,13 @@ struct run {
     uint64_t windows; /* the time passed */
 };
 
-/*
- * Makes the call and answers its number, 0 or a refusal's; a refused call changes nothing. reply gets the registers of an accepted
- * read, from its beginning on.
- */
-uint32_t call_make(const struct call *call, struct run *run, uint8_t reply[GAUGE_REGISTERS]);
+/* What an accepted read or preview hands out. */
+struct reply {
+    uint8_t registers[GAUGE_REGISTERS]; /* those that a read asked for, from the first place on; of a preview all, as they would stand */
+    uint8_t command;                    /* of a preview: the command that would be obeyed */
+};
+
+/* Makes the call and answers its number, 0 or a refusal's; a refused call changes nothing, and a read or a preview only the reply. */
+uint32_t call_make(const struct call *call, struct run *run, struct reply *reply);
 
 #endif

@@ -67,19 +67,38 @@ static bool read_numbers(struct span rest, struct call *call, struct bad_lines *
     char shown[WORD_TEXT_ROOM];
 
     if (count != form->count) {
-        bad_line(bad, call->place, "numbers for %s: %zu; expected %zu", form->word, count, form->count);
+        bad_line(bad, call->place, "numbers for %s%s: %zu; expected %zu", call_prefix(call), form->word, count, form->count);
         return false;
     }
     for (size_t i = 0; word_take(&rest, &word); i++) {
         const struct number_form *number = &form->numbers[i];
         if (!word_number(word, number, &call->numbers[i])) {
-            bad_line(bad, call->place, "%s of %s is '%s'; expected a whole number from %lld to %lld, decimal%s", number->name,
-                     form->word, word_shown(word, shown), (long long)number->least, (long long)number->greatest,
+            bad_line(bad, call->place, "%s of %s%s is '%s'; expected a whole number from %lld to %lld, decimal%s", number->name,
+                     call_prefix(call), form->word, word_shown(word, shown), (long long)number->least, (long long)number->greatest,
                      number->may_be_hexadecimal ? " or with 0x" : "");
             return false;
         }
     }
     return true;
+}
+
+/* After the word preview: a key, or a command with its own number. */
+static bool read_preview(struct span rest, struct call *call, struct bad_lines *bad)
+{
+    struct span after = rest, word;
+    char shown[WORD_TEXT_ROOM];
+
+    call->previewed = true;
+    if (word_take(&after, &word) && word_begins_number(word))
+        return read_numbers(rest, call, bad);
+    enum call_kind kind = kind_of(word);
+    if (kind == CALL_KINDS || !call_forms[kind].is_command) {
+        bad_line(bad, call->place, "preview of '%s'; expected a key, decimal or with 0x, nac, lmd, done, reset or partial",
+                 word_shown(word, shown));
+        return false;
+    }
+    call->kind = kind;
+    return read_numbers(after, call, bad);
 }
 
 /* The bytes take the place of their digits, which need more room: no memory to ask for, and none to free. */
@@ -129,10 +148,12 @@ static bool read_call(struct list *list, struct span line, struct call *call, st
     }
     call->kind = kind_of(first);
     if (call->kind == CALL_KINDS) {
-        bad_line(bad, call->place, "unknown word '%s'; expected open, load, window, rest, write, read, nac, lmd, done, reset, "
-                 "partial or three numbers", word_shown(first, shown));
+        bad_line(bad, call->place, "unknown word '%s'; expected open, load, window, rest, write, read, preview, nac, lmd, "
+                 "done, reset, partial or three numbers", word_shown(first, shown));
         return false;
     }
+    if (call->kind == CALL_PREVIEW)
+        return read_preview(rest, call, bad);
     if (call->kind != CALL_OPEN && call->kind != CALL_LOAD)
         return read_numbers(rest, call, bad);
 
@@ -166,7 +187,8 @@ static bool read_line(struct list *list, struct span line, struct call *call, st
     if (!read_call(list, line, call, bad))
         return false;
     if (!list->opened)
-        bad_line(bad, call->place, "%s before any open; expected open, load or c v t before it", call_forms[call->kind].word);
+        bad_line(bad, call->place, "%s%s before any open; expected open, load or c v t before it", call_prefix(call),
+                 call_forms[call->kind].word);
     return list->opened;
 }
 

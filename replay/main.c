@@ -85,12 +85,12 @@ static enum status make_calls(const struct options *options, const struct list *
     enum status status = STATUS_DONE;
     struct run run = {0};
     struct table table;
-    uint8_t reply[GAUGE_REGISTERS];
+    struct reply reply;
 
     table_begin(&table, options->all, list_windows(list));
     for (size_t i = 0; i < list->count; i++) {
-        uint32_t number = call_make(&list->calls[i], &run, reply);
-        table_row(&table, &list->calls[i], number, &run, reply);
+        uint32_t number = call_make(&list->calls[i], &run, &reply);
+        table_row(&table, &list->calls[i], number, &run, &reply);
     }
     table_end(&table);
     if (fflush(stdout) != 0 || ferror(stdout)) {

@@ -104,6 +104,18 @@ static void print_register(const struct column *column, const uint8_t *registers
     }
 }
 
+static void print_registers(const struct table *table, const uint8_t *registers)
+{
+    for (size_t i = 0; i < table->columns; i++)
+        print_register(&columns[i], registers);
+}
+
+static void print_no_registers(const struct table *table)
+{
+    for (size_t i = 0; i < table->columns; i++)
+        printf(" %*s", column_width(&columns[i]), "-");
+}
+
 static void print_read(uint32_t address, uint32_t count, const uint8_t *reply)
 {
     for (uint32_t from = 0; from < count; from += BYTES_A_LINE) {
@@ -112,6 +124,14 @@ static void print_read(uint32_t address, uint32_t count, const uint8_t *reply)
         bytes_print(stdout, reply + from, left < BYTES_A_LINE ? left : BYTES_A_LINE);
         putchar('\n');
     }
+}
+
+/* The registers stand under their headings. */
+static void print_preview(const struct table *table, const struct reply *reply)
+{
+    printf("#%*s", table->time_width + NUMBER_WIDTH, "would be");
+    print_registers(table, reply->registers);
+    printf(" by %s\n", gauge_command_name(reply->command));
 }
 
 void table_begin(struct table *table, bool all, uint64_t most_windows)
@@ -137,23 +157,30 @@ static void count_call(struct table *table, uint32_t number, struct place place)
         table->refusals[number].first = place;
 }
 
-void table_row(struct table *table, const struct call *call, uint32_t number, const struct run *run, const uint8_t *reply)
+/* What an accepted call handed out. */
+static void print_reply(const struct table *table, const struct call *call, const struct reply *reply)
+{
+    if (call->kind == CALL_READ)
+        print_read((uint32_t)call->numbers[0], (uint32_t)call->numbers[1], reply->registers);
+    if (call->previewed)
+        print_preview(table, reply);
+}
+
+void table_row(struct table *table, const struct call *call, uint32_t number, const struct run *run, const struct reply *reply)
 {
     uint8_t registers[GAUGE_REGISTERS];
     char time[TIME_ROOM];
-    bool gauge = gauge_read(run->saved, sizeof run->saved, 0, GAUGE_REGISTERS, registers, sizeof registers, 0) == GAUGE_OK;
 
     time_text(run->windows, time);
     printf("%*s %*u", table->time_width, time, NUMBER_WIDTH, (unsigned)number);
-    for (size_t i = 0; i < table->columns; i++)
-        if (gauge)
-            print_register(&columns[i], registers);
-        else
-            printf(" %*s", column_width(&columns[i]), "-");
+    if (gauge_read(run->saved, sizeof run->saved, 0, GAUGE_REGISTERS, registers, sizeof registers, 0) == GAUGE_OK)
+        print_registers(table, registers);
+    else
+        print_no_registers(table);
     putchar(' ');
     call_print(call);
-    if (call->kind == CALL_READ && number == GAUGE_OK)
-        print_read((uint32_t)call->numbers[0], (uint32_t)call->numbers[1], reply);
+    if (number == GAUGE_OK)
+        print_reply(table, call, reply);
     count_call(table, number, call->place);
 }
 

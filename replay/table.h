@@ -20,8 +20,8 @@ struct table {
 /* Prints the heading. most_windows: the run takes no more time than these; the first column is as wide as that needs. */
 void table_begin(struct table *table, bool all, uint64_t most_windows);
 
-/* Prints the row of a call that answered number and left the run as it stands, and the registers that a read brought in reply. */
-void table_row(struct table *table, const struct call *call, uint32_t number, const struct run *run, const uint8_t *reply);
+/* Prints the row of a call that answered number and left the run as it stands, and below it what an accepted read or preview handed out. */
+void table_row(struct table *table, const struct call *call, uint32_t number, const struct run *run, const struct reply *reply);
 
 /* Prints the summary. */
 void table_end(const struct table *table);

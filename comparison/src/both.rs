@@ -10,8 +10,8 @@ pub struct Both {
     pub reference: Vec<u8>,
 }
 
-/// What a reply holds before a read: each byte another one, so that a byte out of place shows.
-fn reply_before(length: usize) -> Vec<u8> {
+/// What a reply holds before a call: each byte another one, so that a byte out of place shows.
+pub fn reply_before(length: usize) -> Vec<u8> {
     (0..length).map(|at| (at as u8).wrapping_mul(73).wrapping_add(19)).collect()
 }
 
@@ -62,6 +62,7 @@ impl Both {
                 number
             }
             Call::Read { address, count, reply_length, place } => self.read(address, count, reply_length, place)?,
+            Call::Preview { key, reply_length } => self.preview(key, reply_length)?,
         };
         self.same_saved(number, &before[..length])?;
         Ok(number)

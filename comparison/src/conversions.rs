@@ -36,6 +36,7 @@ pub fn refused(counts: &mut Counts, part: Part, bytes: &[u8], call: &Call) {
         Call::Rest { .. } => Event::OlderRest,
         Call::Write { .. } => Event::OlderWrite,
         Call::Read { .. } => Event::OlderRead,
+        Call::Preview { .. } => Event::OlderPreview,
     };
     counts.add_if(part, event, forms::load(bytes).is_ok());
 }

@@ -16,6 +16,9 @@ use reference::configuration::Configuration;
 use reference::history::Call;
 use reference::{forms, saved};
 
+/// Window, rest, write, read and preview.
+const CALLS_ON_A_GAUGE: usize = 5;
+
 /// What was done to a save, its bytes, and whether loading reads them, where that is known.
 struct Save {
     event: Event,
@@ -23,7 +26,7 @@ struct Save {
     readable: Option<bool>,
 }
 
-/// A save, made of one that a list left or of any valid one, and on it each of the four calls; and its conversion.
+/// A save, made of one that a list left or of any valid one, and on it each call on a gauge; and its conversion.
 pub fn trials(random: &mut Random, from_lists: &[Vec<u8>], counts: &mut Counts) -> (Part, Vec<Trial>) {
     let newest = match from_lists {
         [_, ..] if random.one_in(2) => Fields::of(&from_lists[random.below(from_lists.len() as u64) as usize]),
@@ -36,7 +39,7 @@ pub fn trials(random: &mut Random, from_lists: &[Vec<u8>], counts: &mut Counts) 
         (Part::Damaged, damaged(random, newest))
     };
     count(counts, part, &save);
-    let mut trials = four_calls(random, &configuration, &save);
+    let mut trials = each_call(random, &configuration, &save);
     trials.push(conversion(random, &configuration, save));
     (part, trials)
 }
@@ -49,10 +52,10 @@ fn count(counts: &mut Counts, part: Part, save: &Save) {
     }
 }
 
-/// Each of the four kinds of call once, whatever else was drawn before it. They take the newest form alone.
-fn four_calls(random: &mut Random, configuration: &Configuration, save: &Save) -> Vec<Trial> {
+/// Each call on a gauge once, whatever else was drawn before it. They take the newest form alone.
+fn each_call(random: &mut Random, configuration: &Configuration, save: &Save) -> Vec<Trial> {
     let mut calls: Vec<Call> = Vec::new();
-    while calls.len() < 4 {
+    while calls.len() < CALLS_ON_A_GAUGE {
         let call = gauges::any_call(random, configuration);
         if calls.iter().all(|other| std::mem::discriminant(other) != std::mem::discriminant(&call)) {
             calls.push(call);

@@ -2,6 +2,7 @@
 
 use crate::counts::Counts;
 use crate::fields;
+use crate::previews;
 use crate::standby;
 use crate::table::{Event, Kind, Part};
 use reference::command::{self, Command};
@@ -42,6 +43,7 @@ pub fn kind(call: &Call) -> Kind {
         Call::Rest { .. } => Kind::Rest,
         Call::Write { .. } => Kind::Write,
         Call::Read { .. } => Kind::Read,
+        Call::Preview { .. } => Kind::Preview,
     }
 }
 
@@ -64,6 +66,7 @@ pub fn count(counts: &mut Counts, part: Part, before: &Standing, after: &Standin
             let within = |at: u32| at % 2 == 1 && (0x03..0x1E).contains(&at) && at != 0x0B;
             counts.add_if(part, Event::ReadHalf, within(address) || within(address + count));
         }
+        Call::Preview { key, .. } => previews::count(counts, part, before, key),
     }
 }
 

@@ -40,25 +40,26 @@ fn start(random: &mut Random, fields: &Fields) -> Start {
 }
 
 fn first_call(random: &mut Random, fields: &mut Fields) -> Call {
-    match random.below(9) {
+    match random.below(10) {
         0 => full(random, fields),
         1 => empty(random, fields),
         2 => passes(random, fields),
         3 => learns(random, fields),
         4 => passes_in_rest(random, fields),
-        5 => command(random, fields),
-        6 => settles(random, fields),
+        5 => settles(random, fields),
+        6 | 7 => command(random, fields),
         _ => any_call(random, &fields.meaning()),
     }
 }
 
-/// Any of the four calls, in range or not.
+/// Any call on a gauge, in range or not.
 pub fn any_call(random: &mut Random, configuration: &Configuration) -> Call {
-    match random.below(8) {
+    match random.below(9) {
         0 => host::any_read(random),
         1 => host::any_write(random),
         2 => host::out_of_range(random, configuration),
-        3 => {
+        3 => host::any_preview(random),
+        4 => {
             let windows = match random.below(60) {
                 0 => 16_875,
                 1 => random.range(1, 2_000) as u32,
@@ -164,7 +165,7 @@ fn settles(random: &mut Random, fields: &mut Fields) -> Call {
     Call::Window { current: -load as i32, voltage, temperature: values::temperature(random, &configuration) }
 }
 
-/// A key at CTRL with an AR near LMD or NAC.
+/// A key at CTRL, written or previewed, with an AR near LMD or NAC.
 fn command(random: &mut Random, fields: &mut Fields) -> Call {
     let nac = (fields.h as i64 / GRAINS_PER_COUNT) as u16;
     let near = random.pick(&[fields.lmd, nac, 0, 1, 65_535]);
@@ -173,5 +174,10 @@ fn command(random: &mut Random, fields: &mut Fields) -> Call {
     if random.one_in(4) {
         fields.mode = random.byte();
     }
-    Call::Write { address: 0x00, value: random.pick(&[0xA9, 0xA9, 0x56, 0x56, 0x57]) }
+    let key = random.pick(&[0xA9, 0xA9, 0x56, 0x56, 0x57]);
+    if random.one_in(2) {
+        Call::Preview { key, reply_length: values::preview_length(random) }
+    } else {
+        Call::Write { address: 0x00, value: key }
+    }
 }

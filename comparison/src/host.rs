@@ -1,4 +1,4 @@
-//! What the host does: writes, commands and reads; and calls that are refused.
+//! What the host does: writes, commands, previews and reads; and calls that are refused.
 
 use crate::random::Random;
 use crate::values;
@@ -7,8 +7,22 @@ use reference::configuration::Configuration;
 use reference::history::Call;
 use reference::refusal::{CURRENT_MAX, TEMPERATURE_MAX, TEMPERATURE_MIN, VOLTAGE_MAX, VOLTAGE_MIN};
 
-/// A command with either key, one bit or several in MODE, and an AR near what it is compared with.
+/// Gives a command.
 pub fn command(writer: &mut Writer) {
+    let (ar, mode, key) = any_command(writer);
+    writer.command(ar, mode, key);
+}
+
+/// Looks at a command and does not give it: its bits stay in MODE.
+pub fn look(writer: &mut Writer) {
+    let (ar, mode, key) = any_command(writer);
+    writer.prepare(ar, mode);
+    writer.preview(key);
+}
+
+/// What a command is given by: an AR near what it is compared with, or none; a MODE with one command bit, several or none; and a key,
+/// now and then no command's.
+fn any_command(writer: &mut Writer) -> (Option<i64>, u8, u8) {
     let near = writer.random.range(-1, 1);
     let nac = writer.history.h() / 135_000_000;
     let ar = match writer.random.below(6) {
@@ -27,7 +41,7 @@ pub fn command(writer: &mut Writer) {
         _ => 0,
     };
     let key = writer.random.pick(&[0xA9, 0xA9, 0xA9, 0x56, 0x56, 0x57]);
-    writer.command(ar, bit | others, key);
+    (ar, bit | others, key)
 }
 
 /// WRTLMD or FRST, so that the capacity of a list moves.
@@ -49,6 +63,17 @@ pub fn any_write(random: &mut Random) -> Call {
     };
     let value = if random.one_in(2) { random.pick(&[0xA9, 0x56]) } else { random.byte() };
     Call::Write { address, value }
+}
+
+/// A preview by the MODE and AR that stand there, of either key or of another byte.
+pub fn any_preview(random: &mut Random) -> Call {
+    let key = match random.below(8) {
+        0 => random.byte(),
+        1 => random.pick(&[0x00, 0x55, 0x57, 0xA8, 0xAA, 0xC5, 0xFF]),
+        2..=4 => 0x56,
+        _ => 0xA9,
+    };
+    Call::Preview { key, reply_length: values::preview_length(random) }
 }
 
 /// A read within the map and the reply, or one beyond either, up to the greatest numbers.

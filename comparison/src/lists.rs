@@ -47,7 +47,7 @@ fn scene(writer: &mut Writer) {
     if writer.random.one_in(UPDATE_EVERY) {
         return writer.update();
     }
-    match writer.random.below(20) {
+    match writer.random.below(22) {
         0..=2 => (0..writer.random.amount(12)).for_each(|_| scenes::any_window(writer)),
         3 | 4 => scenes::charge_up(writer),
         5 | 6 => scenes::taper(writer),
@@ -63,6 +63,11 @@ fn scene(writer: &mut Writer) {
         }
         18 => {
             let call = host::any_read(&mut writer.random);
+            writer.call(call);
+        }
+        19 => host::look(writer),
+        20 => {
+            let call = host::any_preview(&mut writer.random);
             writer.call(call);
         }
         _ => {

@@ -14,8 +14,10 @@ mod fields;
 mod gauges;
 mod host;
 mod lists;
+mod look_ahead;
 mod older;
 mod options;
+mod previews;
 mod program;
 mod random;
 mod report;
@@ -110,7 +112,7 @@ fn compare_gauges(seed: u64, wanted: u64, counts: &mut Counts) -> Result<u64, ()
     Ok(calls)
 }
 
-/// Each damaged save gets all four calls and is converted; beside it an opening over bytes of any kind. Half of the saves are of an
+/// Each damaged save gets all calls on a gauge and is converted; beside it an opening over bytes of any kind. Half of the saves are of an
 /// older form, now and then whole.
 fn compare_damaged(seed: u64, wanted: u64, left: &[Vec<u8>], counts: &mut Counts) -> Result<(), ()> {
     let mut random = Random::part(seed, 1 << 63);

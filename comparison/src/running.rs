@@ -7,6 +7,7 @@ use crate::counts::Counts;
 use crate::difference::{same, same_bytes, Difference};
 use crate::events::{self, Standing};
 use crate::older;
+use crate::previews;
 use crate::step::Step;
 use crate::table::{Event, Part};
 use crate::trial::Start;
@@ -53,10 +54,19 @@ impl<'a> Running<'a> {
         }
         match (number, before, self.standing()) {
             (0, Some(before), Some(after)) => events::count(self.counts, self.part, &before, &after, call),
-            (SAVED, ..) => conversions::refused(self.counts, self.part, &self.now.both.reference, call),
-            _ => {}
+            _ => self.count_refused(call, number),
         }
         Ok(())
+    }
+
+    /// Counts what is told of a refused call beside its number.
+    fn count_refused(&mut self, call: &Call, number: u32) {
+        if let Call::Preview { reply_length, .. } = *call {
+            previews::refused(self.counts, self.part, reply_length, number);
+        }
+        if number == SAVED {
+            conversions::refused(self.counts, self.part, &self.now.both.reference, call);
+        }
     }
 
     /// Counts a converted run that has taught, and forgets it where it ends or another begins.

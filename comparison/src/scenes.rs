@@ -1,5 +1,6 @@
 //! Short scenes of a cell's use, from which lists are put together.
 
+use crate::host;
 use crate::values;
 use crate::writer::Writer;
 use reference::history::Call;
@@ -7,6 +8,9 @@ use reference::refusal::CURRENT_MAX;
 
 /// One window of a run in so many has an update of the firmware before it.
 const UPDATE_EVERY: u64 = 100;
+
+/// One window of a run in so many has a look at a command before it.
+const LOOK_EVERY: u64 = 50;
 
 /// Any window in range.
 pub fn any_window(writer: &mut Writer) {
@@ -74,6 +78,9 @@ pub fn run(writer: &mut Writer) {
         }
         if writer.random.one_in(UPDATE_EVERY) {
             writer.update();
+        }
+        if writer.random.one_in(LOOK_EVERY) {
+            host::look(writer);
         }
         let current = values::current(&mut writer.random, &writer.configuration);
         let discharge = if writer.random.one_in(20) { current } else { -current.abs() };

@@ -1,4 +1,4 @@
-//! The six calls of the shipped library (include/gauge.h).
+//! The seven calls of the shipped library (include/gauge.h).
 
 const GUARD: usize = 16;
 const GUARD_BYTE: u8 = 0xC3;
@@ -66,6 +66,14 @@ pub fn read(saved: &Lent, address: u32, count: u32, reply: &mut Lent, place: u32
     let saved = saved.bytes();
     let reply = reply.bytes_mut();
     unsafe { gauge_read(saved.as_ptr(), saved.len(), address, count, reply.as_mut_ptr(), reply.len(), place) }
+}
+
+/// The command is lent as a single byte.
+pub fn preview(saved: &Lent, key: u8, reply: &mut Lent, command: &mut Lent) -> u32 {
+    let saved = saved.bytes();
+    let reply = reply.bytes_mut();
+    let command = &mut command.bytes_mut()[0];
+    unsafe { gauge_preview(saved.as_ptr(), saved.len(), key, reply.as_mut_ptr(), reply.len(), command) }
 }
 
 /// All 128 registers; the number and the reply, whose bytes were 0xFF before the call.

@@ -166,6 +166,8 @@ fn argument(step: &mut Step, field: usize, set: Option<i64>) -> Option<(i64, i64
         (Call::Read { count, .. }, 1) => field!(count, 1),
         (Call::Read { reply_length, .. }, 2) => field!(reply_length, 128),
         (Call::Read { place, .. }, 3) => field!(place, 0),
+        (Call::Preview { key, .. }, 0) => field!(key, 0xA9),
+        (Call::Preview { reply_length, .. }, 1) => field!(reply_length, 128),
         _ => None,
     }
 }

@@ -81,6 +81,20 @@ events! {
     WrtlmdCuts "WRTLMD that cuts the charge" Lists Gauges,
     ReadAll "read of all registers" Lists Gauges,
     ReadHalf "read that begins or ends within a pair" Lists Gauges,
+    PreviewWrtnac "preview of WRTNAC" Lists Gauges,
+    PreviewDone "preview of DONE" Lists Gauges,
+    PreviewPrst "preview of PRST" Lists Gauges,
+    PreviewFrst "preview of FRST" Lists Gauges,
+    PreviewWrtlmd "preview of WRTLMD" Lists Gauges,
+    PreviewWithRun "preview during a run" Lists Gauges,
+    PreviewEmpty "preview refused 13 with a reply of 0 bytes" Lists Gauges,
+    PreviewShort "preview refused 13 with a reply of 127 bytes" Lists Gauges,
+    PreviewLong "preview refused 13 with a reply of 129 bytes" Lists Gauges,
+    PreviewKeyAndReply "preview refused 8 with a reply not of 128 bytes" Lists Gauges,
+    PreviewNoCommandAndReply "preview refused 9 with a reply not of 128 bytes" Lists Gauges,
+    PreviewNotCarriedAndReply "preview refused 10 with a reply not of 128 bytes" Lists Gauges,
+    PreviewLmdZeroAndReply "preview refused 11 with a reply not of 128 bytes" Lists Gauges,
+    PreviewSavedAndReply "preview refused 14 with a reply not of 128 bytes" Damaged Older,
     ConvertedForm1 "form 1 converted" Lists Gauges Older,
     ConvertedForm2 "form 2 converted" Lists Gauges Damaged,
     ConvertedWithRun "older form converted during a run" Lists Gauges Older,
@@ -94,6 +108,7 @@ events! {
     OlderRest "older form, whole: rest refuses it" Older,
     OlderWrite "older form, whole: write refuses it" Older,
     OlderRead "older form, whole: read refuses it" Older,
+    OlderPreview "older form, whole: preview refuses it" Older,
     BitFlipped "save with a bit flipped" Damaged Older,
     ByteReplaced "save with a byte replaced" Damaged Older,
     FormExchanged "save with the number of another form" Damaged Older,
@@ -138,7 +153,7 @@ events! {
     LineOddByte "line with a byte that no number has" Texts,
 }
 
-/// The six calls, for the counts of their numbers.
+/// The seven calls, for the counts of their numbers.
 #[derive(Clone, Copy, PartialEq, Eq)]
 pub enum Kind {
     Open,
@@ -147,10 +162,11 @@ pub enum Kind {
     Rest,
     Write,
     Read,
+    Preview,
 }
 
 /// So many calls have numbers, and so many numbers are counted of each: 0, the work done, and the refusals.
-pub const KINDS: usize = 6;
+pub const KINDS: usize = 7;
 pub const NUMBERS_OF_A_CALL: usize = 15;
 
 /// For each call its numbers and the parts in which they have to occur.
@@ -171,4 +187,7 @@ pub const NUMBERS: &[(Kind, &str, &[u32], &[Part])] = &[
     (Kind::Read, "read", &[0], &[Part::Lists, Part::Gauges, Part::Older]),
     (Kind::Read, "read", &[12, 13], &[Part::Lists, Part::Gauges]),
     (Kind::Read, "read", &[14], &[Part::Damaged, Part::Older]),
+    (Kind::Preview, "preview", &[0], &[Part::Lists, Part::Gauges, Part::Older]),
+    (Kind::Preview, "preview", &[8, 9, 10, 11, 13], &[Part::Lists, Part::Gauges]),
+    (Kind::Preview, "preview", &[14], &[Part::Damaged, Part::Older]),
 ];

@@ -83,6 +83,16 @@ pub fn temperature(random: &mut Random, configuration: &Configuration) -> i32 {
     temperature.clamp(TEMPERATURE_MIN, TEMPERATURE_MAX)
 }
 
+/// The length of a preview's reply: 128, one byte beside it, or another. In one byte 384 would be 128.
+pub fn preview_length(random: &mut Random) -> usize {
+    match random.below(8) {
+        0 => 127,
+        1 => 129,
+        2 => random.pick(&[0, 0, 1, 41, 64, 126, 130, 256, 384]),
+        _ => 128,
+    }
+}
+
 /// A number beyond a range, by one or by any amount in 32 bits.
 pub fn beyond(random: &mut Random, least: i32, greatest: i32) -> i32 {
     loop {

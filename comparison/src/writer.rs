@@ -12,6 +12,9 @@ use reference::history::{Call, History};
 use reference::leak::{leak, w, GRAINS_PER_COUNT, GRAINS_PER_UNIT};
 use reference::refusal::{CURRENT_MAX, VOLTAGE_MAX, VOLTAGE_MIN};
 
+/// One command in so many is previewed before its key is written.
+const LOOK_EVERY: u64 = 3;
+
 pub struct Writer {
     pub random: Random,
     pub configuration: Configuration,
@@ -60,15 +63,28 @@ impl Writer {
         self.call(Call::Write { address, value });
     }
 
-    /// AR, MODE and the key: a whole command of the host.
+    /// A whole command of the host: AR, MODE and the key. Now and then the host looks before it writes the key (paper 02, A2).
     pub fn command(&mut self, ar: Option<i64>, mode: u8, key: u8) {
+        self.prepare(ar, mode);
+        if self.random.one_in(LOOK_EVERY) {
+            self.preview(key);
+        }
+        self.write(0x00, key);
+    }
+
+    /// What a command or its preview needs before the key.
+    pub fn prepare(&mut self, ar: Option<i64>, mode: u8) {
         if let Some(ar) = ar {
             let [low, high] = (ar.clamp(0, 65_535) as u16).to_le_bytes();
             self.write(0x02, low);
             self.write(0x03, high);
         }
         self.write(0x01, mode);
-        self.write(0x00, key);
+    }
+
+    pub fn preview(&mut self, key: u8) {
+        let reply_length = values::preview_length(&mut self.random);
+        self.call(Call::Preview { key, reply_length });
     }
 
     /// A run starts, by DONE or by a charge that tapers off.

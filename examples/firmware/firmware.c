@@ -20,28 +20,47 @@ void windows(unsigned count, int32_t current, int32_t voltage, int32_t temperatu
         must("gauge_window", gauge_window(saved, sizeof saved, current, voltage, temperature));
 }
 
+uint8_t mode(void)
+{
+    uint8_t byte[1];
+
+    must("gauge_read", gauge_read(saved, sizeof saved, GAUGE_REG_MODE, 1, byte, sizeof byte, 0));
+    return byte[0];
+}
+
+void choose_command(uint8_t bit)
+{
+    uint8_t kept = (uint8_t)(mode() & ~GAUGE_MODE_COMMAND_BITS);
+
+    must("gauge_write", gauge_write(saved, sizeof saved, GAUGE_REG_MODE, kept | bit));
+}
+
+struct shown shown_of(const uint8_t *flags)
+{
+    return (struct shown){
+        .nac = gauge_pair(flags + GAUGE_REG_NAC - GAUGE_REG_FLAGS),
+        .lmd = gauge_pair(flags + GAUGE_REG_LMD - GAUGE_REG_FLAGS),
+        .rsoc = flags[GAUGE_REG_RSOC - GAUGE_REG_FLAGS],
+        .flags = flags[0],
+        .cac = gauge_pair(flags + GAUGE_REG_CAC - GAUGE_REG_FLAGS),
+        .tte = gauge_pair(flags + GAUGE_REG_TTE - GAUGE_REG_FLAGS),
+        .si = gauge_pair(flags + GAUGE_REG_SI - GAUGE_REG_FLAGS),
+        .stte = gauge_pair(flags + GAUGE_REG_STTE - GAUGE_REG_FLAGS),
+    };
+}
+
 /* One read brings FLAGS to STTE. The host's frame has two bytes of its own before the registers, which the read keeps. */
 struct shown shown_read(void)
 {
     enum { first = GAUGE_REG_FLAGS, count = GAUGE_REG_STTE + 2 - GAUGE_REG_FLAGS, header = 2 };
     uint8_t frame[header + count] = {first, count};
-    const uint8_t *registers = frame + header;
 
     must("gauge_read", gauge_read(saved, sizeof saved, first, count, frame, sizeof frame, header));
     if (frame[0] != first || frame[1] != count) {
         printf("the frame's header changed\n");
         exit(EXIT_FAILURE);
     }
-    return (struct shown){
-        .nac = gauge_pair(registers + GAUGE_REG_NAC - first),
-        .lmd = gauge_pair(registers + GAUGE_REG_LMD - first),
-        .rsoc = registers[GAUGE_REG_RSOC - first],
-        .flags = registers[GAUGE_REG_FLAGS - first],
-        .cac = gauge_pair(registers + GAUGE_REG_CAC - first),
-        .tte = gauge_pair(registers + GAUGE_REG_TTE - first),
-        .si = gauge_pair(registers + GAUGE_REG_SI - first),
-        .stte = gauge_pair(registers + GAUGE_REG_STTE - first),
-    };
+    return shown_of(frame + header);
 }
 
 void shown_heading(void)

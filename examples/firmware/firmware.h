@@ -1,4 +1,4 @@
-/* What the two example programs share: the gauge's bytes, calls that have to succeed, and registers shown. */
+/* What the three example programs share: the gauge's bytes, calls that have to succeed, MODE, and registers shown. */
 #ifndef FIRMWARE_H
 #define FIRMWARE_H
 
@@ -12,10 +12,18 @@ void must(const char *call, uint32_t number);
 
 void windows(unsigned count, int32_t current, int32_t voltage, int32_t temperature);
 
+uint8_t mode(void);
+
+/* Writes MODE with this command bit, or with none for 0. The bits that are no commands are kept. */
+void choose_command(uint8_t bit);
+
 /* The registers that the programs show. */
 struct shown {
     unsigned nac, lmd, rsoc, flags, cac, tte, si, stte;
 };
+
+/* Of register bytes that begin with FLAGS. */
+struct shown shown_of(const uint8_t *flags);
 
 struct shown shown_read(void);
 void shown_heading(void);

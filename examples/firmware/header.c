@@ -1,6 +1,6 @@
 /*
- * Holds the header's limits, lengths, forms and configuration addresses to the gauge: what lies on a limit is accepted, and what lies just
- * beyond is refused with the limit's own number. The addresses of the other registers are held by replay, whose tables name them.
+ * Holds the header's limits, lengths, forms, commands and configuration addresses to the gauge: what lies on a limit is accepted, and what lies
+ * just beyond is refused with the limit's own number. The addresses of the other registers are held by replay, whose tables name them.
  */
 #include "bench_pack.h"
 #include "gauge.h"
@@ -53,6 +53,50 @@ static uint32_t read(uint32_t count)
     uint32_t number = gauge_open(bench_pack, sizeof bench_pack, saved, sizeof saved);
 
     return number != GAUGE_OK ? number : gauge_read(saved, sizeof saved, 0, count, reply, sizeof reply, 0);
+}
+
+/* With AR 1, which WRTLMD needs. */
+static uint32_t preview(enum gauge_command bit, enum gauge_key key, size_t reply_length, uint8_t *command)
+{
+    uint8_t saved[GAUGE_SAVED_LENGTH], reply[GAUGE_REGISTERS + 1];
+    uint32_t number = gauge_open(bench_pack, sizeof bench_pack, saved, sizeof saved) |
+                      gauge_write(saved, sizeof saved, GAUGE_REG_AR, 1) | gauge_write(saved, sizeof saved, GAUGE_REG_MODE, (uint8_t)bit);
+
+    return number != GAUGE_OK ? number : gauge_preview(saved, sizeof saved, (uint8_t)key, reply, reply_length, command);
+}
+
+static uint32_t preview_into(size_t reply_length)
+{
+    uint8_t command;
+
+    return preview(GAUGE_MODE_WRTNAC, GAUGE_KEY_WRTNAC, reply_length, &command);
+}
+
+/* Each command by its bit and its key, and the number and the name by which a preview knows it. */
+static const struct command {
+    enum gauge_command bit;
+    enum gauge_key key;
+    enum gauge_command_number number;
+    const char *name;
+} commands[] = {
+    {GAUGE_MODE_WRTNAC, GAUGE_KEY_WRTNAC, GAUGE_COMMAND_WRTNAC, "WRTNAC"},
+    {GAUGE_MODE_DONE, GAUGE_KEY_DONE, GAUGE_COMMAND_DONE, "DONE"},
+    {GAUGE_MODE_PRST, GAUGE_KEY_PRST, GAUGE_COMMAND_PRST, "PRST"},
+    {GAUGE_MODE_FRST, GAUGE_KEY_FRST, GAUGE_COMMAND_FRST, "FRST"},
+    {GAUGE_MODE_WRTLMD, GAUGE_KEY_WRTLMD, GAUGE_COMMAND_WRTLMD, "WRTLMD"},
+};
+
+static void command_numbers(void)
+{
+    for (size_t i = 0; i < sizeof commands / sizeof *commands; i++) {
+        const struct command *expected = &commands[i];
+        uint8_t command = 0;
+        uint32_t number = preview(expected->bit, expected->key, GAUGE_REGISTERS, &command);
+        if (number == GAUGE_OK && command == expected->number && strcmp(gauge_command_name(command), expected->name) == 0)
+            continue;
+        printf("%s: answered %u, command %u (%s)\n", expected->name, (unsigned)number, (unsigned)command, gauge_command_name(command));
+        failures++;
+    }
 }
 
 /* By form, up to the newest one, which is what gauge_open makes. */
@@ -142,6 +186,9 @@ int main(void)
           open(GAUGE_CONFIGURATION_LENGTH + 1, GAUGE_SAVED_LENGTH), GAUGE_REFUSED_CONFIGURATION_LENGTH);
     limit("saved bytes", open(GAUGE_CONFIGURATION_LENGTH, GAUGE_SAVED_LENGTH),
           open(GAUGE_CONFIGURATION_LENGTH, GAUGE_SAVED_LENGTH + 1), GAUGE_REFUSED_REPLY);
+    limit("reply of a preview", preview_into(GAUGE_REGISTERS), preview_into(GAUGE_REGISTERS + 1), GAUGE_REFUSED_REPLY);
+    limit("reply of a preview", preview_into(GAUGE_REGISTERS), preview_into(GAUGE_REGISTERS - 1), GAUGE_REFUSED_REPLY);
+    command_numbers();
     forms();
     configuration_addresses();
     return failures == 0 ? 0 : 1;

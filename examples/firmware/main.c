@@ -9,21 +9,11 @@
 #include <stdlib.h>
 #include <string.h>
 
-static uint8_t mode(void)
-{
-    uint8_t byte[1];
-
-    must("gauge_read", gauge_read(saved, sizeof saved, GAUGE_REG_MODE, 1, byte, sizeof byte, 0));
-    return byte[0];
-}
-
-/* A command of the host: its bit to MODE, whose bits that are no commands are kept, then its key to CTRL. */
+/* A command of the host: its bit to MODE, then its key to CTRL. */
 static uint32_t command(uint8_t bit, uint8_t key)
 {
-    uint8_t kept = (uint8_t)(mode() & ~GAUGE_MODE_COMMAND_BITS);
-    uint32_t number = gauge_write(saved, sizeof saved, GAUGE_REG_MODE, kept | bit);
-
-    return number != GAUGE_OK ? number : gauge_write(saved, sizeof saved, GAUGE_REG_CTRL, key);
+    choose_command(bit);
+    return gauge_write(saved, sizeof saved, GAUGE_REG_CTRL, key);
 }
 
 static void show_refusals(void)

@@ -1,4 +1,4 @@
-//! The six calls on the saved bytes. 0 is success; a refusal is its number, and no byte has changed then.
+//! The seven calls on the saved bytes. 0 is success; a refusal is its number, and no byte has changed then.
 //!
 //! All but `convert` take the newest form alone, and an older one is 14 there (paper 02, A1).
 
@@ -6,6 +6,7 @@ use crate::command;
 use crate::configuration::Configuration;
 use crate::forms;
 use crate::gauge::Gauge;
+use crate::preview;
 use crate::refusal;
 use crate::registers;
 use crate::rest;
@@ -69,6 +70,15 @@ pub fn read(saved: &[u8], address: u32, count: u32, reply: &mut [u8], place: u32
         refusal::read(address, count, reply.len(), place)?;
         let (place, count) = (place as usize, count as usize);
         registers::copy(&gauge, address as usize, &mut reply[place..place + count]);
+        Ok(())
+    }))
+}
+
+/// A preview of a key at CTRL: the number of the command that it would obey, and the 128 registers after it. The saved bytes are only
+/// read: refuses 14, 8, 9, 10, 11, 13.
+pub fn preview(saved: &[u8], key: u8, reply: &mut [u8], command: &mut u8) -> u32 {
+    number(load(saved).and_then(|gauge| {
+        *command = preview::preview(&gauge, key, reply)?.number();
         Ok(())
     }))
 }

@@ -21,13 +21,14 @@ const COMMAND_BITS: [(u8, u8, Command); 5] = [
 /// The five bits together; an accepted command clears them, a refused key does not.
 pub const ALL_COMMAND_BITS: u8 = 0x3B;
 
+/// The five commands, with the numbers of include/gauge.h.
 #[derive(Clone, Copy, Debug, PartialEq, Eq)]
 pub enum Command {
-    Wrtnac,
-    Done,
-    Prst,
-    Frst,
-    Wrtlmd,
+    Wrtnac = 1,
+    Done = 2,
+    Prst = 3,
+    Frst = 4,
+    Wrtlmd = 5,
 }
 
 impl Command {
@@ -35,6 +36,11 @@ impl Command {
     pub fn bit_and_key(self) -> (u8, u8) {
         let row = COMMAND_BITS.iter().find(|(_, _, command)| *command == self);
         row.map(|&(bit, key, _)| (bit, key)).expect("every command has a bit")
+    }
+
+    /// What a preview hands out for it.
+    pub fn number(self) -> u8 {
+        self as u8
     }
 }
 
@@ -75,7 +81,8 @@ pub fn write(gauge: &mut Gauge, address: u32, value: u8) -> Result<(), u32> {
     Ok(())
 }
 
-fn carry_out(gauge: &mut Gauge, command: Command) {
+/// A command that a key at CTRL picked.
+pub fn carry_out(gauge: &mut Gauge, command: Command) {
     match command {
         Command::Wrtnac => {
             gauge.h = i64::from(gauge.ar.min(gauge.lmd)) * GRAINS_PER_COUNT;

@@ -13,13 +13,15 @@ use crate::learning;
 use crate::refusal;
 use crate::window::is_full;
 
-/// A call of a list, with its arguments. Of a read's reply only the length matters here.
+/// A call of a list, with its arguments. Of a reply only the length matters here. A preview, of a key at CTRL, may stand anywhere in a
+/// list and moves nothing (paper 02, A2).
 #[derive(Clone, Copy, Debug, PartialEq, Eq)]
 pub enum Call {
     Window { current: i32, voltage: i32, temperature: i32 },
     Rest { windows: u32, temperature: i32 },
     Write { address: u32, value: u8 },
     Read { address: u32, count: u32, reply_length: usize, place: u32 },
+    Preview { key: u8, reply_length: usize },
 }
 
 /// What the history keeps. The sums have no greatest value, so they are wider than any charge.
@@ -99,6 +101,7 @@ impl History {
             Call::Rest { windows, temperature } => refusal::rest(windows, temperature),
             Call::Write { address, value } => refusal::write(address, value, self.mode, self.ar),
             Call::Read { address, count, reply_length, place } => refusal::read(address, count, reply_length, place),
+            Call::Preview { key, reply_length } => refusal::preview(key, self.mode, self.ar, reply_length).map(|_| ()),
         }
     }
 
@@ -109,7 +112,7 @@ impl History {
             Call::Window { current, voltage, temperature } => self.window(current, voltage, temperature),
             Call::Rest { windows, temperature } => self.rest(windows, temperature),
             Call::Write { address, value } => self.write(address, value),
-            Call::Read { .. } => FixingPoints::default(),
+            Call::Read { .. } | Call::Preview { .. } => FixingPoints::default(),
         })
     }
 

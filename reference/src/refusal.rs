@@ -2,7 +2,7 @@
 //!
 //! Number 14 is about the saved bytes and is found in `forms`. Each function here tests in the order of the paper's table.
 
-use crate::command;
+use crate::command::{self, Command};
 
 pub const CONFIGURATION_LENGTH: u32 = 1;
 pub const ILMD_ZERO: u32 = 2;
@@ -71,6 +71,15 @@ pub fn write(address: u32, value: u8, mode: u8, ar: i32) -> Result<(), u32> {
         0x01..=0x03 => Ok(()),
         _ => Err(ADDRESS),
     }
+}
+
+/// 8 to 11 as the write of the key at CTRL, last 13 for a reply not of 128 bytes (paper 02, A2). Else the command that the key picks.
+pub fn preview(key: u8, mode: u8, ar: i32, reply_length: usize) -> Result<Command, u32> {
+    let command = command::decide(key, mode, ar)?;
+    if reply_length != REGISTERS as usize {
+        return Err(REPLY);
+    }
+    Ok(command)
 }
 
 /// 12, 13. The sums are taken in 64 bits, so that none of them wraps.

@@ -2,7 +2,7 @@
 
 mod common;
 use common::*;
-use reference::calls::{convert, read, rest, window, write};
+use reference::calls::{convert, preview, read, rest, window, write};
 use reference::gauge::{Gauge, EDV1, VDQ};
 use reference::trace::Trace;
 use reference::{forms, registers, saved};
@@ -135,6 +135,9 @@ fn the_calls_take_the_newest_form_alone() {
     let mut reply = [0xEE; 2];
     assert_eq!(read(&bytes, 0x0C, 2, &mut reply, 0), 14);
     assert_eq!((bytes, reply), (old, [0xEE; 2]));
+    let (mut registers, mut command) = ([0xEE; 128], 0x99);
+    assert_eq!(preview(&bytes, 0xA9, &mut registers, &mut command), 14);
+    assert_eq!((registers, command), ([0xEE; 128], 0x99));
 }
 
 #[test]

@@ -3,6 +3,7 @@
 mod common;
 use common::*;
 use reference::fixing::FixingPoint::{self, *};
+use reference::fixing::FixingPoints;
 use reference::history::{Call, History};
 use reference::trace::Trace;
 use reference::{bench::BENCH_PACK, saved};
@@ -95,7 +96,27 @@ fn a_refused_call_changes_nothing() {
     assert_eq!(held.0.write(0x00, 0xA9), Err(9));
     let read = Call::Read { address: 0x7F, count: 2, reply_length: 4, place: 0 };
     assert_eq!(held.0.call(&read), Err(12));
+    assert_eq!(held.0.call(&Call::Preview { key: 0xA9, reply_length: 128 }), Err(9));
     assert_eq!((*held.0.saved(), *held.0.history()), before);
+}
+
+#[test]
+fn a_preview_moves_neither_gauge_nor_history() {
+    // Paper 02, A2: it may stand anywhere in a list. Here it stands within a run, its command bits written and left in MODE.
+    for (mode, key) in [(0x20, 0xA9), (0x10, 0xA9), (0x08, 0xA9), (0x02, 0xA9), (0x01, 0x56)] {
+        let mut held = Held::open(&BENCH_PACK);
+        held.window(20, 4150, 1192);
+        held.window(-3000, 3600, 1192);
+        held.write(0x02, 9);
+        held.write(0x01, mode);
+        let before = (*held.0.saved(), *held.0.history());
+        for (reply_length, answer) in [(128, Ok(FixingPoints::default())), (127, Err(13)), (129, Err(13))] {
+            assert_eq!(held.0.call(&Call::Preview { key, reply_length }), answer);
+        }
+        assert_eq!(held.0.call(&Call::Preview { key: 0x57, reply_length: 127 }), Err(8));
+        assert_eq!((*held.0.saved(), *held.0.history()), before);
+        assert_eq!(held.window(-21, 3000, 1192), [QualifiedRun]);
+    }
 }
 
 #[test]

@@ -32,6 +32,8 @@ expect "normal form: open" "$bench_open"$'\n'"$bench_open"$'\n'"$bench_open" \
 expect "normal form: numbers" "$bench_open"$'\nwindow 0 -7 1192\nrest 16875 1180\nwrite 0x01 0x10\nread 0x0C 2\nnac 900\nlmd 900' \
     "$(calls_of 'open bench\n-0 -007 01192\nrest 016875 1180\nwrite 1 0x10\nread 12 0x2\nnac 0900\nlmd 900\n')"
 expect "normal form: commands" "$bench_open"$'\ndone\nreset\npartial' "$(calls_of 'open bench\ndone\nreset\npartial\n')"
+expect "normal form: previews" "$bench_open"$'\npreview 0xA9\npreview 0x09\npreview nac 900\npreview lmd 65535\npreview done\npreview reset\npreview partial' \
+    "$(calls_of 'open bench\npreview 169\npreview 0x9\npreview  nac 0900\n\tpreview\tlmd 65535 # look\npreview done\npreview reset\npreview partial\n')"
 expect "normal form: greatest numbers" "$bench_open
 window -2147483648 2147483647 -2147483648
 rest 4294967295 2147483647

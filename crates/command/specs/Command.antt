@@ -48,6 +48,23 @@ abbrev pub decisionNumber : Decision → ℕ
 decisionNumber (Obey command) = Refusal.none
 decisionNumber (Refused number) = number
 
+-- the number of each command: "1 WRTNAC, 2 DONE, 3 PRST, 4 FRST, 5 WRTLMD"
+abbrev pub commandNumber : Command → ℕ
+commandNumber Wrtnac = 1
+commandNumber Done = 2
+commandNumber Prst = 3
+commandNumber Frst = 4
+commandNumber Wrtlmd = 5
+
+-- no command is obeyed
+abbrev pub noCommand : ℕ
+noCommand = 0
+
+-- "the command that would be obeyed" (A2 of paper 02), by its number
+unfoldable pub commandOf : Decision → ℕ
+commandOf (Obey command) = commandNumber command
+commandOf (Refused number) = noCommand
+
 -- a reset puts the gauge "as opened", in part or whole
 unfoldable pub isReset : Command → Bool
 isReset Wrtnac = false

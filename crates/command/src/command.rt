@@ -85,6 +85,33 @@ pub fn decide(key: u8, mode: u8, ar: u16) -> Decision
     Decision::Refused(UNKNOWN_KEY)
 }
 
+// No command is obeyed.
+const NO_COMMAND: u8 = 0;
+
+// The number of a command, as a preview hands it out.
+fn command_number(command: Command) -> u8
+    ensures { λ r. ⌜ r ≡ Spec.commandNumber command ⌝ }
+{
+    match command {
+        Command::Wrtnac => 1,
+        Command::Done => 2,
+        Command::Prst => 3,
+        Command::Frst => 4,
+        Command::Wrtlmd => 5,
+    }
+}
+
+// The number of the command that a key at CTRL obeys, 0 where it is refused.
+pub fn command_of(key: u8, mode: u8, ar: u16) -> u8
+    ensures { λ r. ⌜ r ≡ Spec.commandOf (Spec.decide key mode ar) ⌝ }
+{
+    let decision = decide(key, mode, ar);
+    match decision {
+        Decision::Obey(command) => command_number(command),
+        Decision::Refused(_) => NO_COMMAND,
+    }
+}
+
 // PRST and FRST put the gauge as opened, in part or whole.
 pub fn is_reset(command: Command) -> bool
     ensures { λ r. ⌜ r ≡ Spec.isReset command ⌝ }

@@ -6,20 +6,20 @@ use mathlib.Core.Path.{_≡_, refl}
 use Prim.Native.Nat.{ℕ}
 use lib.Dec.{eqb}
 use lib.ListN.{length}
-use borrow.Author.Tests.{eqb-true}
 use Rattle.gauge.specs.Answer.{answered}
 use Rattle.gauge.specs.Calls.{restAnswer, windowAnswer, writeAnswer}
 use Rattle.gauge.specs.Opening.{openRefusal, opened}
+use Rattle.gauge.specs.Fits.{Taken}
 use Rattle.gauge.specs.declared.answer.Answer.{Answer}
 use Rattle.gauge.specs.declared.state.Gauge.{Gauge}
-use Rattle.handset.specs.Calls.{callBytes, callNumber, openBytes, openNumber, readNumber, restCall, windowCall, writeCall}
+use Rattle.handset.specs.Calls.{callBytes, callNumber, lookNumber, openBytes, openNumber, restCall, windowCall, writeCall}
 use Rattle.history.specs.After.{after, gaugeAfter, numberOf}
 use Rattle.history.specs.Call as Call
 use Rattle.history.specs.Call.{Call}
-use Rattle.history.specs.Claim.{Taken}
 use Rattle.history.proofs.ListLaws.{opened-answer, opened-taken}
 use Rattle.history.proofs.StayLaws.{stays-accepted}
 use Rattle.refusals.specs.Refusal as Refusal
+use Rattle.refusals.proofs.OrElseLaws.{first-none}
 use Rattle.saved.specs.Form.{newest}
 use Rattle.saved.specs.Load.{answerIn}
 use Rattle.saved.specs.Save.{lengthRefusal, savedBytes}
@@ -55,13 +55,15 @@ module _ (g : Gauge) (k : Taken g) where
   step-bytes (Call.rest n t) = call-bytes g _ _ (restCall n t) (loads g k) refl
   step-bytes (Call.write address value) = call-bytes g _ _ (writeCall address (value .number)) (loads g k) refl
   step-bytes (Call.read address count place replyLength) = refl
+  step-bytes (Call.preview key replyLength) = refl
 
   pub step-numbers : (call : Call) → calledNumber call (savedBytes g) ≡ numberOf call g
-  unfolding calledNumber numberOf readNumber
+  unfolding calledNumber numberOf lookNumber
   step-numbers (Call.window a v t) = call-number g (windowCall a v t) (loads g k)
   step-numbers (Call.rest n t) = call-number g (restCall n t) (loads g k)
   step-numbers (Call.write address value) = call-number g (writeCall address (value .number)) (loads g k)
   step-numbers (Call.read address count place replyLength) = rw (loads g k)
+  step-numbers (Call.preview key replyLength) = rw (loads g k)
 
 -- ---- every list
 
@@ -80,13 +82,6 @@ list-holds calls g k =
     rw (list-bytes calls g k) (record { bytes = refl; numbers = step-numbers (after calls g) (list-taken calls g k) })
 
 -- ---- opening
-
-pub first-none : (m n : ℕ) → cond (eqb m 0) n m ≡ 0 → m ≡ 0
-first-none m n e = go (eqb m 0) refl e
-  where
-    go : (t : Bool) → eqb m 0 ≡ t → cond t n m ≡ 0 → m ≡ 0
-    go true p q = eqb-true m 0 p
-    go false p q = q
 
 pub opens : (c : List ℕ) (n : ℕ) → openNumber c n ≡ Refusal.none → openRefusal c ≡ Refusal.none
 unfolding openNumber

@@ -6,10 +6,11 @@ use lib.IntN.{pos}
 use lib.ListN.{length}
 use Rattle.charge.specs.declared.charge.Charge.{Charge}
 use Rattle.gauge.specs.Opening.{opened}
+use Rattle.gauge.specs.Fits.{Taken}
 use Rattle.gauge.specs.declared.state.Gauge.{Gauge}
 use Rattle.history.specs.After.{after}
 use Rattle.history.specs.Call.{Call}
-use Rattle.history.specs.Claim.{Agrees, Taken, begun}
+use Rattle.history.specs.Claim.{Agrees, begun}
 use Rattle.history.specs.History.{History, afterCalls}
 use Rattle.history.proofs.ListLaws.{from-any-gauge, opened-begun, opened-taken}
 use Rattle.saved.specs.Form.{newest}

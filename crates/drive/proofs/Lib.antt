@@ -1,5 +1,6 @@
 pub mod DriveLaws
 pub mod HistoryLaws
 pub mod OlderFormsLaws
+pub mod PreviewLaws
 pub mod SavedLaws
 pub mod UpdateLaws

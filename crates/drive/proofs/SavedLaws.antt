@@ -8,13 +8,11 @@ use native.Mathlib.Omega.{arith}
 use lib.Dec.{eqb}
 use lib.ListN.{getD, length}
 use Rattle.gauge.specs.Accepted.{accepted}
+use Rattle.gauge.specs.Fits.{Taken}
 use Rattle.gauge.specs.declared.answer.Answer.{Answer}
 use Rattle.gauge.specs.declared.state.Gauge.{Gauge}
-use Rattle.gauge.proofs.AcceptedLaws.{sound}
-use Rattle.history.specs.Claim.{Taken, begun}
-use Rattle.history.proofs.Standing.{taken}
-use Rattle.numbers.specs.Little.{bytesAt, numberAt}
-use Rattle.numbers.proofs.LittleLaws.{number-fits}
+use Rattle.handset.proofs.TakenLaws.{newest-taken, read-taken}
+use Rattle.history.specs.Claim.{begun}
 use Rattle.refusals.specs.Refusal as Refusal
 use Rattle.saved.specs.Form.{Form, form1, formOf, newest}
 use Rattle.saved.specs.Load.{answerIn, loaded, loadedCharge, loadedHost}
@@ -26,38 +24,12 @@ use Rattle.drive.specs.Claim.{begunIn}
 abbrev answer : Gauge → Answer
 answer g = record { number = Refusal.none; gauge = g }
 
--- ---- bytes from a place on
-
-at-length : (width place : ℕ) (s : List ℕ) → length (bytesAt width place s) ≡ width
-at-length zero place s = refl
-at-length (suc width) place s = ap suc (at-length width (suc place) s)
-
-at-small : (width place : ℕ) (s : List ℕ) → ((k : ℕ) → getD s k 0 < 256) → (k : ℕ) → getD (bytesAt width place s) k 0 < 256
-at-small zero place s small k = omega arith
-at-small (suc width) place s small zero = small place
-at-small (suc width) place s small (suc k) = at-small width (suc place) s small k
-
 -- ---- bytes of a form
 
 -- what every form gives that is read
 pub record Carried (form : Form) : Type 0 where
   pub taken : (s : List ℕ) → ((k : ℕ) → getD s k 0 < 256) → accepted (loaded form s) ≡ true → Taken (loaded form s)
   pub begun : (s : List ℕ) → begun (loaded form s) ≡ begunIn form s
-
--- a gauge whose configuration, LMD, MODE and AR are read from bytes at their places
-read-taken : (s : List ℕ) (g : Gauge) → ((k : ℕ) → getD s k 0 < 256) → accepted g ≡ true → g .configuration ≡ bytesAt 10 1 s
-    → g .charge .lmd ≡ numberAt 2 27 s → g .host .mode ≡ numberAt 1 39 s → g .host .ar ≡ numberAt 2 37 s → Taken g
-read-taken s g small good c l m a =
-    let lmd = number-fits 27 s small in
-    let ar = number-fits 37 s small in
-    let mode = small 39 in
-    taken g
-    (record {
-      ten = rw c (record { ten = at-length 10 1 s; bytes = at-small 10 1 s small });
-      sound = sound g good;
-      lmd = omega arith;
-      host = record { mode = omega arith; ar = omega arith };
-    })
 
 carried-1 : Carried form1
 unfolding loaded loadedCharge loadedHost begun
@@ -71,7 +43,7 @@ pub carried-newest : Carried newest
 unfolding loaded loadedCharge loadedHost begun
 carried-newest =
     record {
-      taken = λ s small good. read-taken s (loaded newest s) small good refl refl refl refl;
+      taken = newest-taken;
       begun = λ s. refl;
     }
 

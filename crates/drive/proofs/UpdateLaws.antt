@@ -5,15 +5,17 @@ use mathlib.Core.Path.{_≡_, refl, ap, _∙_}
 use Prim.Native.Nat.{ℕ, _<_}
 use lib.ListN.{getD, length, replicate}
 use borrow.Author.Tests.{eq-eqb}
+use Rattle.gauge.specs.Fits.{Taken}
 use Rattle.gauge.specs.declared.answer.Answer.{Answer}
 use Rattle.gauge.specs.declared.state.Gauge.{Gauge}
 use Rattle.handset.specs.Calls.{convertBytes, convertNumber}
 use Rattle.history.specs.After.{after, gaugeAfter}
-use Rattle.history.specs.Claim.{Taken, begun}
+use Rattle.history.specs.Claim.{begun}
 use Rattle.history.specs.History.{afterCalls}
 use Rattle.history.proofs.ListLaws.{from-any-gauge}
 use Rattle.history.proofs.StayLaws.{stays-accepted}
 use Rattle.refusals.specs.Refusal as Refusal
+use Rattle.refusals.proofs.OrElseLaws.{first-none}
 use Rattle.saved.specs.EveryForm.{loadAnswer}
 use Rattle.saved.specs.Form.{formOf, newest, savedLength}
 use Rattle.saved.specs.Load.{answerIn, loaded}
@@ -23,7 +25,7 @@ use Rattle.saved.proofs.LoadLaws.{accepted-loads, loads}
 use Rattle.drive.specs.Claim.{HoldsHistory}
 use Rattle.drive.specs.Update.{Converted, ConvertedSame, FromUpdate, Step, bytesAfterSteps, callsOf, make, start, stepBytes}
 use Rattle.drive.proofs.DriveLaws as Drive
-use Rattle.drive.proofs.DriveLaws.{first-none, list-taken, step-bytes}
+use Rattle.drive.proofs.DriveLaws.{list-taken, step-bytes}
 use Rattle.drive.proofs.HistoryLaws.{gauge-holds}
 use Rattle.drive.proofs.SavedLaws.{every-form, load-taken, same-bytes}
 

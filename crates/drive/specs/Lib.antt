@@ -1,4 +1,5 @@
 pub mod Claim
 pub mod Drive
 pub mod OlderForms
+pub mod Preview
 pub mod Update

@@ -1,6 +1,7 @@
 // Demand 3 said of the saved bytes and the calls from C. The functions do nothing; their contracts are the claims.
 ghost use Rattle.drive.specs.Claim.{EveryDrive, FromOpening, FromSaved};
 ghost use Rattle.drive.specs.OlderForms.{Form1Reads, Form1Shows};
+ghost use Rattle.drive.specs.Preview.{PreviewOfCopy};
 ghost use Rattle.drive.specs.Update.{Converted, ConvertedSame, FromUpdate};
 
 pub fn every_drive()
@@ -33,4 +34,8 @@ pub fn converted_same()
 
 pub fn from_update()
     ensures { λ _. ⌜ FromUpdate ⌝ }
+{}
+
+pub fn preview_of_copy()
+    ensures { λ _. ⌜ PreviewOfCopy ⌝ }
 {}

@@ -3,6 +3,7 @@
 ghost use Rattle.examples.specs.Examples.{Examples};
 ghost use Rattle.examples.specs.FormRows.{FormRows};
 ghost use Rattle.examples.specs.Numbers.{Numbers};
+ghost use Rattle.examples.specs.PreviewRows.{PreviewRows};
 ghost use Rattle.examples.specs.Rows.{Rows};
 ghost use Rattle.examples.specs.StandbyRows.{StandbyRows};
 
@@ -24,4 +25,8 @@ pub fn proved_standby()
 
 pub fn proved_forms()
     ensures { λ _. ⌜ FormRows ⌝ }
+{}
+
+pub fn proved_previews()
+    ensures { λ _. ⌜ PreviewRows ⌝ }
 {}

@@ -1,5 +1,7 @@
 pub mod AcceptedLaws
 pub mod CallLaws
 pub mod GaugeLaws
+pub mod ObeyedKept
 pub mod OpeningLaws
+pub mod Standing
 pub mod WindowLaws

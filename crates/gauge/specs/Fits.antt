@@ -1,9 +1,11 @@
--- The widths of a gauge value's fields, which are those of its saved fields: what every value of the type `Gauge` has in the code.
--- Definitions only; assumes nothing.
+-- The widths of a gauge value's fields, which are those of its saved fields: what every value of the type `Gauge` has in the code; and the gauge
+-- values that calls take. Definitions only; assumes nothing.
+use mathlib.Core.Bool.{true}
 use mathlib.Core.List.{List}
 use mathlib.Core.Path.{_≡_}
 use Prim.Native.Nat.{ℕ, _<_, _^_}
 use lib.ListN.{getD, length}
+use Rattle.gauge.specs.Accepted.{accepted}
 use Rattle.gauge.specs.declared.state.Gauge.{Gauge}
 
 -- "The ten configuration bytes"
@@ -25,3 +27,8 @@ pub record Fits (g : Gauge) : Type 0 where
   pub ar : g .host .ar < 256 ^ 2
   -- "MODE"
   pub mode : g .host .mode < 256
+
+-- a gauge value of these widths which 14 does not refuse
+pub record Taken (g : Gauge) : Type 0 where
+  pub fits : Fits g
+  pub accepted : accepted g ≡ true

@@ -23,8 +23,11 @@ use sample::range::voltage_in_range;
 // "A rest of n windows (1 to 16,875)".
 const LONGEST_REST: u32 = 16_875;
 
+// Where keys are written.
+pub const CTRL: u32 = 0x00;
+
 // The last address that the host may write: AR's high byte.
-const LAST_WRITABLE: u32 = 3;
+pub const LAST_WRITABLE: u32 = 0x03;
 
 impl Gauge {
     // A window: current, voltage and temperature as handed in.
@@ -118,7 +121,7 @@ impl Gauge {
                 gauge,
             };
         }
-        if address == 0 {
+        if address == CTRL {
             return gauge.keyed(value);
         }
         let host = gauge.host.stored(address, value);

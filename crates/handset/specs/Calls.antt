@@ -11,9 +11,12 @@ use Rattle.gauge.specs.Calls.{restAnswer, windowAnswer, writeAnswer}
 use Rattle.gauge.specs.Opening.{openRefusal, opened}
 use Rattle.gauge.specs.declared.answer.Answer.{Answer}
 use Rattle.gauge.specs.declared.state.Gauge.{Gauge}
+use Rattle.preview.specs.Preview as Preview
+use Rattle.preview.specs.Preview.{commandAfter, previewRefusal}
 use Rattle.refusals.specs.Refusal as Refusal
 use Rattle.refusals.specs.Refusal.{orElse}
-use Rattle.registers.specs.Reading.{readRefusal, replyAfter}
+use Rattle.registers.specs.Reading as Reading
+use Rattle.registers.specs.Reading.{readRefusal}
 use Rattle.saved.specs.EveryForm.{loadAnswer}
 use Rattle.saved.specs.Form.{newest}
 use Rattle.saved.specs.Load.{answerIn}
@@ -53,12 +56,31 @@ convertNumber old bufferLength = orElse ((loadAnswer old) .number) (lengthRefusa
 unfoldable pub convertBytes : List ℕ → List ℕ → List ℕ
 convertBytes old saved = cond (eqb (convertNumber old (length saved)) Refusal.none) (savedBytes ((loadAnswer old) .gauge)) saved
 
--- ---- a read: 14, 12, 13
+-- ---- a call that looks at the gauge and leaves the saved bytes
 
-unfoldable pub readNumber : List ℕ → ℕ → ℕ → ℕ → ℕ → ℕ
-readNumber saved address count place replyLength =
-    orElse ((answerIn newest saved) .number) (readRefusal ((answerIn newest saved) .gauge) address count place replyLength)
+-- 14, "tested first", then the call's own number
+unfoldable pub lookNumber : List ℕ → (Gauge → ℕ) → ℕ
+lookNumber saved number = orElse ((answerIn newest saved) .number) (number ((answerIn newest saved) .gauge))
 
-unfoldable pub readReply : List ℕ → ℕ → ℕ → ℕ → List ℕ → List ℕ
-readReply saved address count place reply =
-    cond (eqb ((answerIn newest saved) .number) Refusal.none) (replyAfter ((answerIn newest saved) .gauge) address count place reply) reply
+-- what a lent reply or number holds afterwards
+unfoldable pub lookLeaves : {A : Type 0} → List ℕ → (Gauge → A) → A → A
+lookLeaves saved after before = cond (eqb ((answerIn newest saved) .number) Refusal.none) (after ((answerIn newest saved) .gauge)) before
+
+-- a read: 14, 12, 13
+
+abbrev pub readNumber : List ℕ → ℕ → ℕ → ℕ → ℕ → ℕ
+readNumber saved address count place replyLength = lookNumber saved (λ g. readRefusal g address count place replyLength)
+
+abbrev pub readReply : List ℕ → ℕ → ℕ → ℕ → List ℕ → List ℕ
+readReply saved address count place reply = lookLeaves saved (λ g. Reading.replyAfter g address count place reply) reply
+
+-- a preview of a key at CTRL (A2 of paper 02): 14, 8 to 11, 13
+
+abbrev pub previewNumber : List ℕ → ℕ → ℕ → ℕ
+previewNumber saved key replyLength = lookNumber saved (λ g. previewRefusal g key replyLength)
+
+abbrev pub previewReply : List ℕ → ℕ → List ℕ → List ℕ
+previewReply saved key reply = lookLeaves saved (λ g. Preview.replyAfter g key reply) reply
+
+abbrev pub previewCommand : List ℕ → ℕ → ℕ → ℕ → ℕ
+previewCommand saved key replyLength before = lookLeaves saved (λ g. commandAfter g key replyLength before) before

@@ -6,13 +6,27 @@ ghost use lib.ListN.{length};
 ghost use Rattle.handset.specs.Calls as Spec;
 use crate::keep::host_place;
 use crate::keep::keep;
+use crate::key::write_key;
+use command::command::command_of;
+use gauge::calls::CTRL;
+use gauge::calls::LAST_WRITABLE;
 use gauge::opening::open;
+use refusals::BUFFER_LENGTH;
 use refusals::NONE;
+use refusals::NOT_WRITABLE;
 use refusals::REJECTED;
 use registers::reading::read;
+use registers::whole::REGISTER_COUNT;
 use saved::every_form::load;
+use saved::form::LENGTH;
 use saved::load::decoded;
 use saved::load::form_fits;
+
+// The bytes of the newest form.
+const SAVED_LENGTH: usize = LENGTH as usize;
+
+// All registers, from CTRL on.
+const REGISTERS: u32 = REGISTER_COUNT as u32;
 
 // Refuses 1, 2, 13.
 #[no_mangle]
@@ -73,16 +87,18 @@ pub extern "C" fn gauge_write(saved: &mut [u8], address: u32, value: u8) -> u32
     ensures number { λ r. ⌜ r ≡ Spec.callNumber (now (saved .entry)) (Spec.writeCall address value) ⌝ }
     ensures bytes { λ _. ⌜ now (saved .exit) ≡ Spec.callBytes (now (saved .entry)) (Spec.writeCall address value) ⌝ }
 {
+    if address == CTRL {
+        return write_key(saved, value);
+    }
     if !form_fits(saved) {
         return REJECTED;
     }
     let gauge = decoded(saved);
-    let answer = gauge.write(address, value);
-    if address == 0 {
-        return keep(answer, saved);
+    if !gauge.accepted() {
+        return REJECTED;
     }
-    if answer.number != NONE {
-        return answer.number;
+    if LAST_WRITABLE < address {
+        return NOT_WRITABLE;
     }
     let place = host_place(address);
     saved[place] = value;
@@ -106,4 +122,28 @@ pub extern "C" fn gauge_read(
     }
     let gauge = decoded(saved);
     read(gauge, address, count, reply, place)
+}
+
+// "the write done on a copy and then read". Refuses 14, 8 to 11, 13.
+#[no_mangle]
+pub extern "C" fn gauge_preview(saved: &[u8], key: u8, reply: &mut [u8], command: &mut u8) -> u32
+    ensures number { λ r. ⌜ r ≡ Spec.previewNumber (now (saved .entry)) key (length (now (reply .entry))) ⌝ }
+    ensures bytes { λ _. ⌜ now (reply .exit) ≡ Spec.previewReply (now (saved .entry)) key (now (reply .entry)) ⌝ }
+    ensures command { λ _. ⌜ now (command .exit) ≡ Spec.previewCommand (now (saved .entry)) key (length (now (reply .entry))) (now (command .entry)) ⌝ }
+{
+    if saved.len() != SAVED_LENGTH {
+        return REJECTED;
+    }
+    let mut copied = [0u8; SAVED_LENGTH];
+    bytes::copy(saved, &mut copied);
+    let number = write_key(&mut copied, key);
+    if number != NONE {
+        return number;
+    }
+    if reply.len() != REGISTERS as usize {
+        return BUFFER_LENGTH;
+    }
+    let gauge = decoded(saved);
+    *command = command_of(key, gauge.host.mode, gauge.host.ar);
+    gauge_read(&copied, CTRL, REGISTERS, reply, 0)
 }

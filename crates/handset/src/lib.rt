@@ -1,3 +1,4 @@
 // The calls from C on the saved bytes.
 pub mod calls;
 mod keep;
+mod key;

@@ -35,7 +35,7 @@ use Rattle.reached.proofs.ChargeKept.{chargeAfter}
 use Rattle.history.proofs.CommandTracks.{HostTracks, full-host, host-decides, obeyed-host, command-tracks, stored-host}
 use Rattle.history.proofs.RestTracks.{rest-tracks}
 use Rattle.sample.proofs.SampleKept.{counted-within}
-use Rattle.history.proofs.Standing.{Standing, bounded, rate-low}
+use Rattle.gauge.proofs.Standing.{Standing, bounded, rate-low}
 use Rattle.history.proofs.Tracking.{Tracks}
 use Rattle.history.proofs.WindowTracks.{window-tracks}
 

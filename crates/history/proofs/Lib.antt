@@ -5,7 +5,6 @@ pub mod DifferenceLaws
 pub mod ListLaws
 pub mod NumberLaws
 pub mod RestTracks
-pub mod Standing
 pub mod StayLaws
 pub mod SumTracks
 pub mod Tracking

@@ -16,6 +16,7 @@ use Rattle.configuration.specs.Terms.{termsOf}
 use Rattle.gauge.specs.Accepted.{accepted}
 use Rattle.gauge.specs.Answer.{answered, unlessRejected}
 use Rattle.gauge.specs.Calls.{restAnswer, restInRange, restRefusal, sampleRefusal, windowAnswer, writeAnswer, writeRefusal}
+use Rattle.gauge.specs.Fits.{Taken}
 use Rattle.gauge.specs.Opening.{openAnswer, openRefusal, opened}
 use Rattle.gauge.specs.declared.state.Gauge.{Gauge}
 use Rattle.gauge.proofs.AcceptedLaws.{sound-accepted}
@@ -26,7 +27,7 @@ use Rattle.refusals.specs.Refusal as Refusal
 use Rattle.history.specs.After.{after, gaugeAfter, numberOf}
 use Rattle.history.specs.Call.{Call}
 use Rattle.history.specs.Call as Call
-use Rattle.history.specs.Claim.{Agrees, Demand3, FromAnyGauge, Taken, begun, drainOf, runOf}
+use Rattle.history.specs.Claim.{Agrees, Demand3, FromAnyGauge, begun, drainOf, runOf}
 use Rattle.history.specs.History.{History, afterCall, afterCalls, afterWork, openedHistory}
 use Rattle.history.specs.Refused.{refusalOf}
 use Rattle.history.proofs.AnswerLaws.{not-rejected, rest-in-range, window-in-range}
@@ -36,7 +37,7 @@ use Rattle.host.proofs.HostKept.{opened-fits}
 use Rattle.history.proofs.NumberLaws.{number-most, numbers-alike}
 use Rattle.sample.proofs.SampleKept.{no-sample}
 use Rattle.standby.proofs.StandbyKept.{opened-standby}
-use Rattle.history.proofs.Standing.{Standing, standing, taken}
+use Rattle.gauge.proofs.Standing.{Standing, standing, taken}
 use Rattle.history.proofs.StayLaws.{call-stands}
 use Rattle.history.proofs.Tracking.{fixed-is}
 
@@ -71,6 +72,7 @@ call-beside (Call.write address value) g x s f =
     (λ e. written-beside g x s f address (value .number)))
 call-beside (Call.read address count place replyLength) g x s f =
     either-beside (eqb (refusalOf (Call.read address count place replyLength) (x .host)) 0) g x f
+call-beside (Call.preview key replyLength) g x s f = either-beside (eqb (refusalOf (Call.preview key replyLength) (x .host)) 0) g x f
 
 -- ---- every list
 

@@ -12,6 +12,7 @@ use Rattle.gauge.specs.declared.state.Gauge.{Gauge}
 use Rattle.host.specs.declared.host.Host.{Host}
 use Rattle.refusals.specs.Refusal as Refusal
 use Rattle.refusals.specs.Refusal.{orElse}
+use Rattle.preview.specs.Preview.{previewRefusal}
 use Rattle.registers.specs.Reading.{placeRefusal, readRefusal}
 use Rattle.sample.specs.Range.{currentInRange, currentRefusal, temperatureInRange, temperatureRefusal, voltageInRange, voltageRefusal}
 use Rattle.history.specs.After.{numberOf}
@@ -25,7 +26,7 @@ use Rattle.command.proofs.DecisionLaws.{key-most}
 
 pub numbers-alike : (call : Call) (g : Gauge) (host : Host) → accepted g ≡ true → HostTracks (g .host) host
     → numberOf call g ≡ refusalOf call host
-unfolding numberOf refusalOf windowAnswer restAnswer writeAnswer writeRefusal readRefusal placeRefusal
+unfolding numberOf refusalOf windowAnswer restAnswer writeAnswer writeRefusal readRefusal placeRefusal previewRefusal
 numbers-alike (Call.window a v t) g host e k = rw e
 numbers-alike (Call.rest n t) g host e k = rw e
 numbers-alike (Call.write address value) g host e k =
@@ -33,6 +34,10 @@ numbers-alike (Call.write address value) g host e k =
     (ap (λ (d : Decision). cond (ltb 3 address) Refusal.notWritable (cond (eqb address 0) (decisionNumber d) Refusal.none))
     (host-decides (value .number) (g .host) host k))
 numbers-alike (Call.read address count place replyLength) g host e k = rw e
+numbers-alike (Call.preview key replyLength) g host e k =
+    rw e
+    (ap (λ (d : Decision). orElse (decisionNumber d) (cond (eqb replyLength 128) Refusal.none Refusal.bufferLength))
+    (host-decides (key .number) (g .host) host k))
 
 -- ---- is at most 13
 
@@ -63,3 +68,7 @@ number-most (Call.read address count place replyLength) host =
     (cond (ltb replyLength (place + count)) Refusal.bufferLength Refusal.none)
     (either-most (eqb count 0 || ltb 128 (address + count)) Refusal.registerRange Refusal.none (omega arith) (omega arith))
     (either-most (ltb replyLength (place + count)) Refusal.bufferLength Refusal.none (omega arith) (omega arith))
+number-most (Call.preview key replyLength) host =
+    or-else-most (decisionNumber (decide (key .number) (host .mode) (host .ar))) (cond (eqb replyLength 128) Refusal.none Refusal.bufferLength)
+    (key-most (key .number) (host .mode) (host .ar))
+    (either-most (eqb replyLength 128) Refusal.none Refusal.bufferLength (omega arith) (omega arith))

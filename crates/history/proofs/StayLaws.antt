@@ -7,37 +7,32 @@ use native.Mathlib.Omega.{arith}
 use lib.Dec.{eqb}
 use lib.IntN.{ℤ}
 use borrow.Author.Tests.{eqb-true}
-use Rattle.command.specs.Command.{decide, isReset}
-use Rattle.command.specs.declared.command.Command.{Command}
-use Rattle.command.specs.declared.command.Command.the-variants.{Wrtlmd}
-use Rattle.command.specs.declared.command.Decision.{Decision}
-use Rattle.command.specs.declared.command.Decision.the-variants.{Obey, Refused}
+use Rattle.command.specs.Command.{decide}
 use Rattle.configuration.specs.Configuration.{dmf, s0, sd}
 use Rattle.configuration.specs.Terms.{termsOf}
 use Rattle.gauge.specs.Accepted.{accepted}
 use Rattle.gauge.specs.Answer.{answered, unlessRejected}
 use Rattle.gauge.specs.Calls.{restAnswer, restInRange, restRefusal, sampleRefusal, storedAt, windowAnswer, writeAnswer, writeRefusal, written}
-use Rattle.gauge.specs.Obey.{decided, obeyed}
+use Rattle.gauge.specs.Obey.{decided}
 use Rattle.gauge.specs.Rest.{rest}
 use Rattle.gauge.specs.Window.{reachedIn, summed, window}
 use Rattle.gauge.specs.declared.state.Gauge.{Gauge}
+use Rattle.gauge.proofs.ObeyedKept.{decided-stands}
+use Rattle.gauge.proofs.Standing.{Standing, bounded, rate-low, standing, taken}
 use Rattle.grains.specs.Leak.{leakRate}
 use Rattle.reached.specs.Reached.{chargeReached, reachedBy}
 use Rattle.sample.specs.Current.{counted, discharge}
 use Rattle.sample.specs.Range.{current, temperature, temperatureInRange, voltage}
-use Rattle.sample.specs.Sample.{sampleReset}
-use Rattle.sample.proofs.SampleLaws.{SampleSound}
 use Rattle.history.specs.After.{gaugeAfter}
 use Rattle.history.specs.Call.{Call}
 use Rattle.history.specs.Call as Call
 use Rattle.history.specs.Claim.{StaysAccepted}
 use Rattle.history.proofs.AnswerLaws.{InRange, not-rejected, rest-in-range, window-in-range}
-use Rattle.reached.proofs.ChargeKept.{command-bounded, rest-bounded, window-bounded}
+use Rattle.reached.proofs.ChargeKept.{rest-bounded, window-bounded}
 use Rattle.command.proofs.DecisionLaws.{wrtlmd-above}
-use Rattle.host.proofs.HostKept.{full-fits, obeyed-fits, stored-fits}
-use Rattle.sample.proofs.SampleKept.{counted-within, no-sample, rest-sample, window-sample}
-use Rattle.standby.proofs.StandbyKept.{averaged-kept, reset-kept}
-use Rattle.history.proofs.Standing.{Standing, bounded, opens, rate-low, standing, taken}
+use Rattle.host.proofs.HostKept.{full-fits, stored-fits}
+use Rattle.sample.proofs.SampleKept.{counted-within, rest-sample, window-sample}
+use Rattle.standby.proofs.StandbyKept.{averaged-kept}
 
 -- ---- each call's work
 
@@ -94,43 +89,13 @@ module _ (g : Gauge) (s : Standing g) where
         host = stored-fits address value (g .host) small (s .host);
       }
 
-  reset-sample : (t : Bool) → SampleSound (dmf (g .configuration)) (sampleReset t (g .sample))
-  unfolding sampleReset
-  reset-sample true = no-sample (dmf (g .configuration))
-  reset-sample false = s .sound .sample
-
-  obeyed-stands : (command : Command) → (command ≡ Wrtlmd → 0 < g .host .ar) → Standing (obeyed command g)
-  unfolding obeyed
-  obeyed-stands command above =
-      let c = g .configuration in
-      let p = opens c (s .sound .ilmd) in
-      let q = s .ten .bytes 0 in
-      let w = s .host .ar in
-      let b = command-bounded command (termsOf c) (g .host .ar) (g .charge) (bounded g s) (omega arith) (omega arith) (omega arith) above in
-      record {
-        ten = s .ten;
-        sound = record {
-          ilmd = s .sound .ilmd;
-          charge = b .sound;
-          standby = reset-kept (isReset command) (s0 c) (g .standby) (s .sound .standby);
-          sample = reset-sample (isReset command);
-        };
-        lmd = b .lmd;
-        host = obeyed-fits command c (g .host) (s .host);
-      }
-
-  decided-stands : (d : Decision) → (d ≡ Obey Wrtlmd → 0 < g .host .ar) → Standing (decided d g)
-  unfolding decided
-  decided-stands (Obey command) above = obeyed-stands command (λ e. above (ap Obey e))
-  decided-stands (Refused number) above = s
-
   written-stands : (address value : ℕ) → value < 256 → Standing (written address value g)
   unfolding written
   written-stands address value small = go (eqb address 0)
     where
       go : (t : Bool) → Standing (cond t (decided (decide value (g .host .mode) (g .host .ar)) g) (storedAt address value g))
       go true =
-          decided-stands (decide value (g .host .mode) (g .host .ar)) (wrtlmd-above value (g .host .mode) (g .host .ar))
+          decided-stands g s (decide value (g .host .mode) (g .host .ar)) (wrtlmd-above value (g .host .mode) (g .host .ar))
       go false = stored-stands address value small
 
 -- ---- every call
@@ -155,6 +120,7 @@ call-stands (Call.write address value) g s =
     answered-stands (unlessRejected g (writeRefusal (g .host .mode) (g .host .ar) address (value .number))) g _ s
     (λ e. written-stands g s address (value .number) (value .below))
 call-stands (Call.read address count place replyLength) g s = s
+call-stands (Call.preview key replyLength) g s = s
 
 pub stays-accepted : StaysAccepted
 stays-accepted g k call = taken (gaugeAfter call g) (call-stands call g (standing g k))

@@ -7,8 +7,7 @@ use mathlib.Core.Path.{_≡_}
 use Prim.Native.Nat.{ℕ, _<_}
 use lib.IntN.{pos}
 use lib.ListN.{getD}
-use Rattle.gauge.specs.Accepted.{accepted}
-use Rattle.gauge.specs.Fits.{Fits}
+use Rattle.gauge.specs.Fits.{Taken}
 use Rattle.gauge.specs.Opening.{openAnswer, openRefusal}
 use Rattle.gauge.specs.declared.state.Gauge.{Gauge}
 use Rattle.grains.specs.Run.{noRun}
@@ -47,11 +46,6 @@ Demand3 =
     → (calls : List Call) → Agrees (after calls ((openAnswer configuration) .gauge)) (afterCalls calls (openedHistory configuration))
 
 -- ---- the same from any gauge
-
--- a gauge value of the widths that every one has in the code, which 14 does not refuse
-pub record Taken (g : Gauge) : Type 0 where
-  pub fits : Fits g
-  pub accepted : accepted g ≡ true
 
 -- the run of a gauge
 abbrev pub drainOf : Run → Option ℕ

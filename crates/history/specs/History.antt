@@ -17,7 +17,7 @@ use Rattle.host.specs.declared.host.Host.{Host}
 use Rattle.numbers.specs.Signed.{atLeastZero}
 use Rattle.refusals.specs.Refusal as Refusal
 use Rattle.history.specs.Account.{Account, afterRest, afterWindow, fixing, withRun}
-use Rattle.history.specs.Call.{Call, window, rest, write, read}
+use Rattle.history.specs.Call.{Call, window, rest, write, read, preview}
 use Rattle.history.specs.Refused.{refusalOf}
 use Rattle.history.specs.Sums.{chargeOf, grainsACount}
 use Rattle.history.specs.Tests.{countedCurrent}
@@ -86,8 +86,9 @@ afterWork (window a v t) x =
 afterWork (rest n t) x = withAccount (afterRest (termsOf (x .configuration)) n t (x .account)) x
 afterWork (write address value) x = afterWrite address (value .number) x
 afterWork (read address count place replyLength) x = x
+afterWork (preview key replyLength) x = x
 
--- "Read, or any call refused: nothing changes."
+-- "Read, or any call refused: nothing changes." Nor does a preview: "without changing its sum" (A2 of paper 02)
 unfoldable pub afterCall : Call → History → History
 afterCall call x = cond (eqb (refusalOf call (x .host)) Refusal.none) (afterWork call x) x
 

@@ -8,7 +8,7 @@ use Rattle.host.specs.declared.host.Host.{Host}
 use Rattle.refusals.specs.Refusal as Refusal
 use Rattle.refusals.specs.Refusal.{orElse}
 use Rattle.sample.specs.Range.{currentRefusal, temperatureRefusal, voltageRefusal}
-use Rattle.history.specs.Call.{Call, window, rest, write, read}
+use Rattle.history.specs.Call.{Call, window, rest, write, read, preview}
 
 unfoldable pub refusalOf : Call → Host → ℕ
 -- 3 "current range", 4 "voltage range", 5 "temperature range"
@@ -23,3 +23,6 @@ refusalOf (write address value) host =
 refusalOf (read address count place replyLength) host =
     orElse (cond (eqb count 0 || ltb 128 (address + count)) Refusal.registerRange Refusal.none)
     (cond (ltb replyLength (place + count)) Refusal.bufferLength Refusal.none)
+-- 8 to 11 of the key, "and last 13 for a reply not of 128 bytes"
+refusalOf (preview key replyLength) host =
+    orElse (decisionNumber (decide (key .number) (host .mode) (host .ar))) (cond (eqb replyLength 128) Refusal.none Refusal.bufferLength)

@@ -203,15 +203,21 @@ pub opened-bounded : (terms : Terms) → 0 < terms .capacity → terms .capacity
 unfolding openedCharge
 opened-bounded terms p q = record { sound = record { learned = p; within = omega arith; run = none-sound }; lmd = q }
 
-pub command-bounded : (command : Command) (terms : Terms) (ar : ℕ) (y : Charge) → Bounded y → 0 < terms .capacity → terms .capacity ≤ 65_535
-    → ar ≤ 65_535 → (command ≡ Wrtlmd → 0 < ar) → Bounded (chargeObeyed command terms ar y)
-unfolding chargeObeyed writtenNac writtenLmd withoutRun filled
-command-bounded Wrtnac terms ar y b p q w above =
-    record { sound = record { learned = b .sound .learned; within = omega arith; run = none-sound }; lmd = b .lmd }
-command-bounded Done terms ar y b p q w above =
-    record { sound = record { learned = b .sound .learned; within = omega arith; run = started-sound }; lmd = b .lmd }
-command-bounded Prst terms ar y b p q w above =
-    record { sound = record { learned = b .sound .learned; within = b .sound .within; run = none-sound }; lmd = b .lmd }
-command-bounded Frst terms ar y b p q w above = opened-bounded terms p q
-command-bounded Wrtlmd terms ar y b p q w above =
-    record { sound = record { learned = above refl; within = omega arith; run = none-sound }; lmd = w }
+-- what acceptance asks of a charge, whatever the widths
+pub command-sound : (command : Command) (terms : Terms) (ar : ℕ) (y : Charge) → ChargeSound y → 0 < terms .capacity → (command ≡ Wrtlmd → 0 < ar)
+    → ChargeSound (chargeObeyed command terms ar y)
+unfolding chargeObeyed writtenNac writtenLmd withoutRun filled openedCharge
+command-sound Wrtnac terms ar y s p above = record { learned = s .learned; within = omega arith; run = none-sound }
+command-sound Done terms ar y s p above = record { learned = s .learned; within = omega arith; run = started-sound }
+command-sound Prst terms ar y s p above = record { learned = s .learned; within = s .within; run = none-sound }
+command-sound Frst terms ar y s p above = record { learned = p; within = omega arith; run = none-sound }
+command-sound Wrtlmd terms ar y s p above = record { learned = above refl; within = omega arith; run = none-sound }
+
+pub command-lmd : (command : Command) (terms : Terms) (ar : ℕ) (y : Charge) → y .lmd ≤ 65_535 → terms .capacity ≤ 65_535 → ar ≤ 65_535
+    → (chargeObeyed command terms ar y) .lmd ≤ 65_535
+unfolding chargeObeyed writtenNac writtenLmd withoutRun filled openedCharge
+command-lmd Wrtnac terms ar y m q w = m
+command-lmd Done terms ar y m q w = m
+command-lmd Prst terms ar y m q w = m
+command-lmd Frst terms ar y m q w = q
+command-lmd Wrtlmd terms ar y m q w = w

@@ -23,7 +23,7 @@ use refusals::NONE;
 use refusals::REJECTED;
 
 // The addresses 0x00 to 0x7F.
-pub(crate) const REGISTER_COUNT: usize = 128;
+pub const REGISTER_COUNT: usize = 128;
 
 // What `all` answers: the number, 0 or 14, and the registers.
 pub struct Registers {

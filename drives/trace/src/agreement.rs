@@ -2,7 +2,7 @@
 
 use crate::line;
 use crate::second::Second;
-use crate::shown::{shown, time, REGISTERS};
+use crate::shown::{shown, time, would_be, REGISTERS};
 use crate::step::Step;
 use crate::table::{self, Row};
 use reference::gauge::Gauge;
@@ -25,6 +25,8 @@ fn step(second: &mut Second, row: &Row) -> Result<Step, String> {
     }
     let read: Vec<String> = second.read(&step.line).iter().map(|byte| format!("{byte:02X}")).collect();
     same("read", &row.bytes.join(" "), &read.join(" "))?;
+    let preview = second.preview(&step.line).map_or(String::new(), |(command, registers)| would_be(command, &registers));
+    same("preview", &row.would_be.join(" "), &preview)?;
     if let (Some(gauge), Some(history)) = (&step.gauge, second.history()) {
         demand_3(gauge, history)?;
     }
@@ -65,7 +67,7 @@ mod tests {
         let steps = steps(TABLE).unwrap();
         assert_eq!(
             steps.iter().map(|step| (step.to, step.number, step.nac())).collect::<Vec<_>>()[3..],
-            [(3, 0, 1019), (3, 5, 1019), (3, 0, 1019)]
+            [(3, 0, 1019), (3, 5, 1019), (3, 0, 1019), (3, 0, 1019)]
         );
     }
 
@@ -93,6 +95,18 @@ mod tests {
     fn a_wrong_call_or_read() {
         assert_eq!(refused("window 2 3700 1192", "sleep"), "row 3 (sleep): `sleep` is no call that replay prints");
         assert_eq!(refused("FB 03", "FB 04"), "row 7 (read 0x0C 2): read is `FB 04`, the second implementation has `FB 03`");
+    }
+
+    #[test]
+    fn a_wrong_preview() {
+        let what = |from, to| refused(from, to).replace("the second implementation has ", "");
+        let own = "900 1024 87 CI 773 15 0x40 900 58 1192 3600 897 3000 65535 10 5400 3000 by WRTNAC";
+        let (other, done) = (own.replacen("773", "774", 1), own.replace("WRTNAC", "DONE"));
+        assert_eq!(what("773", "774"), format!("row 9 (preview nac 900): preview is `{other}`, `{own}`"));
+        assert_eq!(what("by WRTNAC", "by DONE"), format!("row 9 (preview nac 900): preview is `{done}`, `{own}`"));
+        assert_eq!(what("would be", "will be"), format!("row 9 (preview nac 900): preview is ``, `{own}`"));
+        let write = what("preview nac 900", "write 0x02 0x00");
+        assert_eq!(write, format!("row 9 (write 0x02 0x00): preview is `{own}`, ``"));
     }
 
     #[test]

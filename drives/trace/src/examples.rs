@@ -1,4 +1,4 @@
-//! A table for the tests: the bench pack's example of paper 01, then a refused window and a read.
+//! A table for the tests: the bench pack's example of paper 01, then a refused window, a read and a preview.
 
 pub const HEADING: &str = "time number NAC LMD RSOC FLAGS CAC TTE MODE AR ARTTE TEMP VOLT FCAC IAV TTF SI STTE CEDV call\n";
 
@@ -11,7 +11,9 @@ pub const TABLE: &str = "\
 0:00:15.36      5  1019  1024   99       CI+VDQ   892    17 0x40     0 65535  1192  3600   897  3000 65535    10  6114  3000 window 0 3600 1373
 0:00:15.36      0  1019  1024   99       CI+VDQ   892    17 0x40     0 65535  1192  3600   897  3000 65535    10  6114  3000 read 0x0C 2
 # 0x0C: FB 03
-# 6 calls, 1 refused
+0:00:15.36      0  1019  1024   99       CI+VDQ   892    17 0x40     0 65535  1192  3600   897  3000 65535    10  6114  3000 preview nac 900
+#        would be   900  1024   87           CI   773    15 0x40   900    58  1192  3600   897  3000 65535    10  5400  3000 by WRTNAC
+# 7 calls, 1 refused
 # refused with 5 (temperature out of range): 1, first standard input:5
 ";
 

@@ -4,13 +4,15 @@ use reference::command::{self, ALL_COMMAND_BITS};
 use reference::history::Call;
 use reference::refusal::REGISTERS;
 
-/// A line of a list. A command is several writes, which are refused together.
+/// A line of a list. A command is several writes, which are refused together. The preview of a key is one call, that of a command writes AR
+/// and MODE on a copy first.
 #[derive(Clone, Debug, PartialEq, Eq)]
 pub enum Line {
     Open(Vec<u8>),
     Load(Vec<u8>),
     One(Call),
     Command(Command),
+    Preview(Command),
 }
 
 /// A command as a host gives it, with AR where it needs one.
@@ -21,18 +23,27 @@ pub struct Command {
 }
 
 impl Command {
-    /// The writes, from the MODE that stands before them. MODE keeps the bits that are no commands.
-    pub fn writes(&self, mode: u8) -> Vec<Call> {
+    /// The writes before the key, from the MODE that stands before them. MODE keeps the bits that are no commands.
+    pub fn prepares(&self, mode: u8) -> Vec<Call> {
         let write = |address, value| Call::Write { address, value };
-        let (bit, key) = self.command.bit_and_key();
         let mut writes = Vec::new();
         if let Some(ar) = self.ar {
             let [low, high] = ar.to_le_bytes();
             writes.extend([write(command::AR_LOW, low), write(command::AR_HIGH, high)]);
         }
-        writes.extend([write(command::MODE, mode & !ALL_COMMAND_BITS | bit), write(command::CTRL, key)]);
+        let (bit, _) = self.command.bit_and_key();
+        writes.push(write(command::MODE, mode & !ALL_COMMAND_BITS | bit));
         writes
     }
+
+    pub fn key(&self) -> u8 {
+        self.command.bit_and_key().1
+    }
+}
+
+/// The preview of a key as `replay` makes it, with a reply of all registers.
+pub fn preview(key: u8) -> Call {
+    Call::Preview { key, reply_length: REGISTERS as usize }
 }
 
 pub fn parse(text: &str) -> Result<Line, String> {
@@ -41,18 +52,28 @@ pub fn parse(text: &str) -> Result<Line, String> {
 }
 
 fn line(words: &[&str]) -> Option<Line> {
-    use command::Command::{Done, Frst, Prst, Wrtlmd, Wrtnac};
-    let command = |command, ar| Some(Line::Command(Command { command, ar }));
     match *words {
         ["open", ref bytes @ ..] => Some(Line::Open(hexadecimal(bytes)?)),
         ["load", ref bytes @ ..] => Some(Line::Load(hexadecimal(bytes)?)),
-        ["done"] => command(Done, None),
-        ["reset"] => command(Frst, None),
-        ["partial"] => command(Prst, None),
-        ["nac", n] => command(Wrtnac, Some(number(n)?)),
-        ["lmd", n] => command(Wrtlmd, Some(number(n)?)),
-        _ => call(words).map(Line::One),
+        ["preview", ref previewed @ ..] => match command(previewed) {
+            Some(command) => Some(Line::Preview(command)),
+            None => call(words).map(Line::One),
+        },
+        _ => command(words).map(Line::Command).or_else(|| call(words).map(Line::One)),
     }
+}
+
+fn command(words: &[&str]) -> Option<Command> {
+    use command::Command::{Done, Frst, Prst, Wrtlmd, Wrtnac};
+    let (command, ar) = match *words {
+        ["done"] => (Done, None),
+        ["reset"] => (Frst, None),
+        ["partial"] => (Prst, None),
+        ["nac", n] => (Wrtnac, Some(number(n)?)),
+        ["lmd", n] => (Wrtlmd, Some(number(n)?)),
+        _ => return None,
+    };
+    Some(Command { command, ar })
 }
 
 fn call(words: &[&str]) -> Option<Call> {
@@ -63,6 +84,7 @@ fn call(words: &[&str]) -> Option<Call> {
         ["read", address, count] => {
             Call::Read { address: number(address)?, count: number(count)?, reply_length: REGISTERS as usize, place: 0 }
         }
+        ["preview", key] => preview(number(key)?),
         _ => return None,
     })
 }
@@ -98,12 +120,13 @@ mod tests {
     #[test]
     fn a_command_keeps_the_other_bits_of_mode() {
         let write = |address, value| Call::Write { address, value };
-        assert_eq!(command("nac 900").writes(0xFF), [write(2, 0x84), write(3, 0x03), write(1, 0xE4), write(0, 0xA9)]);
-        assert_eq!(command("done").writes(0x44), [write(1, 0x54), write(0, 0xA9)]);
-        assert_eq!(command("lmd 1").writes(0x44)[2..], [write(1, 0x45), write(0, 0x56)]);
+        assert_eq!(given("nac 900").prepares(0xFF), [write(2, 0x84), write(3, 0x03), write(1, 0xE4)]);
+        assert_eq!(given("done").prepares(0x44), [write(1, 0x54)]);
+        assert_eq!(given("lmd 1").prepares(0x44)[2..], [write(1, 0x45)]);
+        assert_eq!(["nac 900", "done", "lmd 1"].map(|text| given(text).key()), [0xA9, 0xA9, 0x56]);
     }
 
-    fn command(text: &str) -> Command {
+    fn given(text: &str) -> Command {
         match parse(text) {
             Ok(Line::Command(command)) => command,
             other => panic!("{other:?}"),
@@ -111,8 +134,19 @@ mod tests {
     }
 
     #[test]
+    fn previews_of_a_key_and_of_a_command() {
+        assert_eq!(parse("preview 0xA9"), Ok(Line::One(Call::Preview { key: 0xA9, reply_length: 128 })));
+        for text in ["nac 900", "lmd 1", "done", "reset", "partial"] {
+            assert_eq!(parse(&format!("preview {text}")), Ok(Line::Preview(given(text))));
+        }
+    }
+
+    #[test]
     fn anything_else_is_an_error() {
         for text in ["", "window 1 2", "rest -1 1192", "write 0x01 0x100", "nac 65536", "done 1", "open 4G", "sleep 1"] {
+            assert!(parse(text).is_err(), "{text}");
+        }
+        for text in ["preview", "preview 256", "preview nac", "preview done 1", "preview read 0x0C 2", "preview preview 1"] {
             assert!(parse(text).is_err(), "{text}");
         }
     }

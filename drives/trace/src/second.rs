@@ -1,8 +1,9 @@
 //! The second implementation, gauge and history, on the lines of a list.
 
-use crate::line::{Command, Line};
+use crate::line::{self, Command, Line};
 use crate::step::Step;
 use reference::calls;
+use reference::command::CTRL;
 use reference::fixing::{FixingPoint, FixingPoints};
 use reference::gauge::Gauge;
 use reference::history::{Call, History};
@@ -55,17 +56,24 @@ impl Second {
             }
             Line::One(call) => self.trace.as_mut().ok_or(SAVED)?.call(call),
             Line::Command(command) => self.command(command),
+            Line::Preview(command) => self.prepared(command)?.call(&line::preview(command.key())),
         }
     }
 
-    /// The writes of a command on a copy, which takes the gauge's place if none of them is refused.
-    fn command(&mut self, command: &Command) -> Result<FixingPoints, u32> {
+    /// A copy with AR and MODE written for the command. No fixing point is made by that.
+    fn prepared(&self, command: &Command) -> Result<Trace, u32> {
         let mut copy = self.trace.ok_or(SAVED)?;
         let mode = saved::load(copy.saved())?.mode;
-        let mut points = FixingPoints::default();
-        for write in command.writes(mode) {
-            copy.call(&write)?.iter().for_each(|point| points.insert(point));
+        for write in command.prepares(mode) {
+            copy.call(&write)?;
         }
+        Ok(copy)
+    }
+
+    /// A command is given to the copy, which takes the gauge's place if the key is not refused.
+    fn command(&mut self, command: &Command) -> Result<FixingPoints, u32> {
+        let mut copy = self.prepared(command)?;
+        let points = copy.write(CTRL, command.key())?;
         self.trace = Some(copy);
         Ok(points)
     }
@@ -81,6 +89,17 @@ impl Second {
             },
             _ => Vec::new(),
         }
+    }
+
+    /// The command that an accepted preview says would be obeyed, and all registers as they would stand; none for another call.
+    pub fn preview(&self, line: &Line) -> Option<(u8, [u8; REGISTERS as usize])> {
+        let (trace, key) = match line {
+            Line::One(Call::Preview { key, .. }) => (self.trace?, *key),
+            Line::Preview(command) => (self.prepared(command).ok()?, command.key()),
+            _ => return None,
+        };
+        let (mut command, mut registers) = (0, [0; REGISTERS as usize]);
+        (calls::preview(trace.saved(), key, &mut registers, &mut command) == 0).then_some((command, registers))
     }
 }
 
@@ -104,6 +123,7 @@ mod tests {
     fn without_a_gauge_every_call_answers_14() {
         let numbers = |lines| steps(lines).iter().map(|step| step.number).collect::<Vec<_>>();
         assert_eq!(numbers(&["open 04", "window 1 2 3", "done", "load 00", "read 0x00 1"]), [1, 14, 14, 14, 14]);
+        assert_eq!(numbers(&["open 04", "preview 0xA9", "preview done"]), [1, 14, 14]);
         assert_eq!(numbers(&[OPEN, "open 00 5E 77 05 21 10 00 00 6C 15", "window 9 3700 1192"]), [0, 2, 0]);
     }
 
@@ -114,6 +134,14 @@ mod tests {
         assert_eq!(steps[2].gauge, steps[1].gauge);
         assert!(steps[0].points.contains(Opening) && steps[3].points.contains(Done));
         assert_eq!(steps[3].nac(), 1024);
+    }
+
+    #[test]
+    fn a_preview_moves_nothing() {
+        let steps = steps(&[OPEN, "nac 500", "preview nac 9", "preview lmd 0", "preview 0xA9", "write 0x01 0x10", "preview 0xA9"]);
+        assert_eq!(steps.iter().map(|step| step.number).collect::<Vec<_>>(), [0, 0, 0, 11, 9, 0, 0]);
+        assert!(steps[2..5].iter().all(|step| step.gauge == steps[1].gauge && step.points.is_empty() && !step.moves()));
+        assert_eq!(steps[6].gauge, steps[5].gauge);
     }
 
     #[test]

@@ -46,18 +46,27 @@ const fn register(name: &'static str, address: usize, form: Form) -> Register {
 /// The flags in the order in which the table names them.
 const FLAGS: [(u8, &str); 5] = [(CHGS, "CHGS"), (CI, "CI"), (VDQ, "VDQ"), (EDV1, "EDV1"), (EDVF, "EDVF")];
 
+/// The commands by the numbers that a preview hands out, from 1.
+const COMMANDS: [&str; 5] = ["WRTNAC", "DONE", "PRST", "FRST", "WRTLMD"];
+
 /// What every column shows where there is no gauge.
 const NONE: &str = "-";
 
 /// The registers of the gauge in the saved bytes, as the table has them.
 pub fn shown(saved: Option<&[u8; saved::LENGTH]>) -> Vec<String> {
     match saved.and_then(|bytes| saved::load(bytes).ok()) {
-        Some(gauge) => {
-            let all = registers::all(&gauge);
-            REGISTERS.iter().map(|register| value(register, &all)).collect()
-        }
+        Some(gauge) => values(&registers::all(&gauge)),
         None => vec![String::from(NONE); REGISTERS.len()],
     }
+}
+
+/// What a preview shows: all registers as they would stand, and the command's number.
+pub fn would_be(command: u8, all: &[u8]) -> String {
+    format!("{} by {}", values(all).join(" "), COMMANDS[usize::from(command) - 1])
+}
+
+fn values(all: &[u8]) -> Vec<String> {
+    REGISTERS.iter().map(|register| value(register, all)).collect()
 }
 
 fn value(register: &Register, all: &[u8]) -> String {

@@ -26,9 +26,9 @@ impl Step {
         self.number != 0
     }
 
-    /// Not refused and not a read: the steps from which curves, bands and points are drawn.
+    /// Not refused, and neither a read nor a preview: the steps from which curves, bands and points are drawn.
     pub fn moves(&self) -> bool {
-        !self.refused() && !matches!(self.line, Line::One(Call::Read { .. }))
+        !self.refused() && !matches!(self.line, Line::One(Call::Read { .. } | Call::Preview { .. }) | Line::Preview(_))
     }
 
     pub fn flags(&self) -> u8 {

@@ -59,3 +59,17 @@ pub unsafe extern "C" fn gauge_read(
 ) -> u32 {
     reference::calls::read(from_raw_parts(saved, saved_length), address, count, from_raw_parts_mut(reply, reply_length), place)
 }
+
+/// # Safety
+/// The pointers with a length are valid for it, and no two of the buffers overlap, the command among them.
+#[no_mangle]
+pub unsafe extern "C" fn gauge_preview(
+    saved: *const u8,
+    saved_length: usize,
+    key: u8,
+    reply: *mut u8,
+    reply_length: usize,
+    command: &mut u8,
+) -> u32 {
+    reference::calls::preview(from_raw_parts(saved, saved_length), key, from_raw_parts_mut(reply, reply_length), command)
+}

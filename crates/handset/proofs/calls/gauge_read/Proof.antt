@@ -3,7 +3,8 @@ use mathlib.Core.Path.{_∙_, sym}
 use denote.Ref.{now}
 use borrow.Author.Tests.{not-true, not-false}
 use Rattle.saved.proofs.LoadLaws.{decoded-is}
-use Rattle.handset.proofs.ReadLaws.{misfit-read, read-done}
+use Rattle.handset.proofs.LookLaws.{look-leaves, look-number, misfit-leaves, misfit-number}
+use Rattle.handset.proofs.ReadLaws.{read-keeps, read-rejects}
 use borrow.Author.Needs.{needs}
 use Rattle.handset.proofs.calls.gauge_read.Statement.{statement}
 use Rattle.handset.proofs.calls.gauge_read.Tie as tie
@@ -15,7 +16,8 @@ returns : tie.Need-returns
 returns c =
     let f = c .before in
     let a = f .before .before .before .args in
-    misfit-read (now (a .saved)) (a .address) (a .count) (a .place) (now (a .reply)) (sym (f .form-fits .ensures) ∙ not-true _ (c .if1 .taken))
+    let misfit = sym (f .form-fits .ensures) ∙ not-true _ (c .if1 .taken) in
+    (misfit-number (now (a .saved)) misfit _, misfit-leaves (now (a .saved)) misfit _ _)
 
 decoded-requires : tie.Need-decoded-requires
 decoded-requires c κs = search needs
@@ -34,7 +36,10 @@ returns-2 c =
     let f = i .before in
     let a = f .before .before .before .args in
     let fit = sym (f .form-fits .ensures) ∙ not-false _ (i .if1 .left) in
-    read-done (now (a .saved)) (a .address) (a .count) (a .place) (now (a .reply)) fit (d .decoded .ensures ∙ decoded-is _ fit) (r .read .ensures .0) (r .read .ensures .1)
+    let held = d .decoded .ensures ∙ decoded-is _ fit in (
+      look-number (now (a .saved)) fit held (read-rejects (a .address) (a .count) (a .place) _) (r .read .ensures .0),
+      look-leaves (now (a .saved)) fit held (read-keeps (a .address) (a .count) (a .place) (now (a .reply))) (r .read .ensures .1),
+    )
 
 pub gauge-read-spec : {M : Type 1} → statement M
 gauge-read-spec =

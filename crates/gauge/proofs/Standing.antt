@@ -8,17 +8,16 @@ use native.Mathlib.Omega.{arith}
 use lib.Dec.{eqb}
 use borrow.Author.Tests.{eqb-false, leb-true, not-true}
 use Rattle.configuration.specs.Configuration.{dmf, ilmd, s0, sd}
-use Rattle.gauge.specs.Fits.{TenBytes}
-use Rattle.gauge.specs.declared.state.Gauge.{Gauge}
-use Rattle.gauge.proofs.AcceptedLaws.{Sound, sound, sound-accepted}
 use Rattle.grains.specs.Leak.{leakRate}
 use Rattle.grains.proofs.LeakLaws.{leak-rate-within}
 use Rattle.sample.specs.Limits.{leastTemperature, leastVoltage, mostTemperature, mostVoltage}
 use Rattle.standby.specs.Standby.{standbyAccepted}
-use Rattle.history.specs.Claim.{Taken}
 use Rattle.reached.proofs.ChargeKept.{Bounded}
 use Rattle.host.proofs.HostKept.{HostFits}
 use Rattle.sample.proofs.SampleKept.{current-fits, value-fits}
+use Rattle.gauge.specs.Fits.{Taken, TenBytes}
+use Rattle.gauge.specs.declared.state.Gauge.{Gauge}
+use Rattle.gauge.proofs.AcceptedLaws.{Sound, sound, sound-accepted}
 
 pub record Standing (g : Gauge) : Type 0 where
   pub ten : TenBytes (g .configuration)
@@ -66,9 +65,6 @@ module _ (g : Gauge) where
 
   pub bounded : Standing g → Bounded (g .charge)
   bounded s = record { sound = s .sound .charge; lmd = s .lmd }
-
-pub opens : (c : List ℕ) → not (eqb (ilmd c) 0) ≡ true → 0 < ilmd c
-opens c e = let n : ilmd c ≡ 0 → ⊥ = eqb-false (ilmd c) 0 (not-true (eqb (ilmd c) 0) e) in omega arith
 
 pub rate-low : (c : List ℕ) (t : ℕ) → leakRate (sd c) t ≤ 1_920
 rate-low c t = leak-rate-within (sd c) t (let h : sd c ≤ 15 = omega arith in h)

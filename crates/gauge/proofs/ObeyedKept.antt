@@ -1,0 +1,109 @@
+-- A command leaves a gauge that 14 does not refuse, of the widths that every gauge has: each part stays one that is accepted, and WRTLMD is obeyed
+-- only where AR is above 0. Assumes nothing.
+use mathlib.Core.Bool.{Bool, true, false, not, cond}
+use mathlib.Core.List.{List}
+use mathlib.Core.Path.{_≡_, refl, sym, ap, subst, _∙_}
+use Prim.Native.Nat.{ℕ, _<_}
+use native.Mathlib.Omega.{arith}
+use lib.Dec.{eqb}
+use borrow.Author.Tests.{eqb-false, not-true}
+use Rattle.command.specs.Command.{decide, isReset}
+use Rattle.command.specs.declared.command.Command.{Command}
+use Rattle.command.specs.declared.command.Command.the-variants.{Wrtlmd}
+use Rattle.command.specs.declared.command.Decision.{Decision}
+use Rattle.command.specs.declared.command.Decision.the-variants.{Obey, Refused}
+use Rattle.command.proofs.DecisionLaws.{wrtlmd-above}
+use Rattle.configuration.specs.Configuration.{dmf, ilmd, s0}
+use Rattle.configuration.specs.Terms.{termsOf}
+use Rattle.refusals.specs.Refusal as Refusal
+use Rattle.host.proofs.HostKept.{obeyed-fits}
+use Rattle.reached.proofs.ChargeKept.{command-lmd, command-sound}
+use Rattle.sample.specs.Sample.{sampleReset}
+use Rattle.sample.proofs.SampleKept.{no-sample}
+use Rattle.sample.proofs.SampleLaws.{SampleSound}
+use Rattle.standby.proofs.StandbyKept.{reset-kept}
+use Rattle.gauge.specs.Accepted.{accepted}
+use Rattle.gauge.specs.Calls.{writeAnswer, writeRefusal, written}
+use Rattle.gauge.specs.Fits.{Taken}
+use Rattle.gauge.specs.Obey.{decided, obeyed}
+use Rattle.gauge.specs.declared.state.Gauge.{Gauge}
+use Rattle.gauge.proofs.AcceptedLaws.{Sound, sound, sound-accepted}
+use Rattle.gauge.proofs.Standing.{Standing, standing, taken}
+
+pub opens : (c : List ℕ) → not (eqb (ilmd c) 0) ≡ true → 0 < ilmd c
+opens c e = let n : ilmd c ≡ 0 → ⊥ = eqb-false (ilmd c) 0 (not-true (eqb (ilmd c) 0) e) in omega arith
+
+module _ (g : Gauge) (s : Sound g) where
+  reset-sample : (t : Bool) → SampleSound (dmf (g .configuration)) (sampleReset t (g .sample))
+  unfolding sampleReset
+  reset-sample true = no-sample (dmf (g .configuration))
+  reset-sample false = s .sample
+
+  pub obeyed-sound : (command : Command) → (command ≡ Wrtlmd → 0 < g .host .ar) → Sound (obeyed command g)
+  unfolding obeyed
+  obeyed-sound command above =
+      let c = g .configuration in
+      let p = opens c (s .ilmd) in
+      record {
+        ilmd = s .ilmd;
+        charge = command-sound command (termsOf c) (g .host .ar) (g .charge) (s .charge) (omega arith) above;
+        standby = reset-kept (isReset command) (s0 c) (g .standby) (s .standby);
+        sample = reset-sample (isReset command);
+      }
+
+  decided-sound : (d : Decision) → (d ≡ Obey Wrtlmd → 0 < g .host .ar) → Sound (decided d g)
+  unfolding decided
+  decided-sound (Obey command) above = obeyed-sound command (λ e. above (ap Obey e))
+  decided-sound (Refused number) above = s
+
+module _ (g : Gauge) (s : Standing g) where
+  obeyed-stands : (command : Command) → (command ≡ Wrtlmd → 0 < g .host .ar) → Standing (obeyed command g)
+  unfolding obeyed
+  obeyed-stands command above =
+      let c = g .configuration in
+      let q = s .ten .bytes 0 in
+      let w = s .host .ar in
+      record {
+        ten = s .ten;
+        sound = obeyed-sound g (s .sound) command above;
+        lmd = command-lmd command (termsOf c) (g .host .ar) (g .charge) (s .lmd) (omega arith) (omega arith);
+        host = obeyed-fits command c (g .host) (s .host);
+      }
+
+  pub decided-stands : (d : Decision) → (d ≡ Obey Wrtlmd → 0 < g .host .ar) → Standing (decided d g)
+  unfolding decided
+  decided-stands (Obey command) above = obeyed-stands command (λ e. above (ap Obey e))
+  decided-stands (Refused number) above = s
+
+-- ---- a key at CTRL
+
+module _ (g : Gauge) (key : ℕ) where
+  decision : Decision
+  decision = decide key (g .host .mode) (g .host .ar)
+
+  written-accepted : accepted g ≡ true → accepted (written 0 key g) ≡ true
+  unfolding written decision
+  written-accepted e =
+      sound-accepted (decided decision g) (decided-sound g (sound g e) decision (wrtlmd-above key (g .host .mode) (g .host .ar)))
+
+  written-taken : Taken g → Taken (written 0 key g)
+  unfolding written decision
+  written-taken k =
+      taken (decided decision g) (decided-stands g (standing g k) decision (wrtlmd-above key (g .host .mode) (g .host .ar)))
+
+  not-rejected : (t : Bool) (n : ℕ) → cond t n Refusal.rejected ≡ Refusal.none → t ≡ true
+  not-rejected true n e = refl
+  not-rejected false n e = let z : ⊥ = omega arith in absurd z
+
+  module _ (e : (writeAnswer g 0 key) .number ≡ Refusal.none) where
+    pub key-gauge : (writeAnswer g 0 key) .gauge ≡ written 0 key g
+    unfolding writeAnswer
+    key-gauge = ap (λ (n : ℕ). cond (eqb n Refusal.none) (written 0 key g) g) e
+
+    pub key-accepted : accepted ((writeAnswer g 0 key) .gauge) ≡ true
+    unfolding writeAnswer
+    key-accepted =
+        ap accepted key-gauge ∙ written-accepted (not-rejected (accepted g) (writeRefusal (g .host .mode) (g .host .ar) 0 key) e)
+
+    pub key-taken : Taken g → Taken ((writeAnswer g 0 key) .gauge)
+    key-taken k = subst Taken (sym key-gauge) (written-taken k)

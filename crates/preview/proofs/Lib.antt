@@ -1,0 +1,2 @@
+pub mod PreviewLaws
+pub mod ShowsLaws

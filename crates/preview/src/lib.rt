@@ -1,0 +1,3 @@
+// What a key at CTRL would do, without doing it.
+pub mod claim;
+pub mod preview;
