@@ -58,7 +58,7 @@ enum gauge_refusal {
     GAUGE_REFUSED_NOT_CARRIED = 10,         /* the command does not belong to this key */
     GAUGE_REFUSED_LMD_ZERO = 11,            /* WRTLMD with AR 0 */
     GAUGE_REFUSED_COUNT = 12,               /* count 0, or address + count above 128 */
-    GAUGE_REFUSED_REPLY = 13,               /* place + count beyond the reply; previewing: reply not 128 bytes; opening, converting: saved not 41 */
+    GAUGE_REFUSED_REPLY = 13,               /* place + count beyond the reply; preview: not 128 bytes; open, convert: saved not 41 */
     GAUGE_REFUSED_SAVED = 14                /* the saved bytes are no gauge: damaged, cleared, of another length or form */
 };
 

@@ -6,15 +6,18 @@ use Prim.Native.Nat.{ℕ, _<_}
 use lib.Dec.{eqb}
 use lib.ListN.{getD, length}
 use borrow.Author.Tests.{eqb-false, eqb-true}
-use Rattle.handset.specs.Calls.{callBytes, callNumber, lookNumber, previewNumber, previewReply, readReply, writeCall}
+use Rattle.command.specs.Command.{commandOf, decide}
+use Rattle.gauge.specs.declared.state.Gauge.{Gauge}
+use Rattle.handset.specs.Calls.{callBytes, callNumber, lookNumber, previewCommand, previewNumber, previewReply, readReply, writeCall}
 use Rattle.handset.proofs.PreviewLaws.{key-refused, previewed, reply-refused}
 use Rattle.preview.specs.Preview.{onCopy, previewRefusal, wholeReplyRefusal}
 use Rattle.refusals.specs.Refusal as Refusal
 use Rattle.refusals.specs.Refusal.{orElse}
-use Rattle.refusals.proofs.OrElseLaws.{in-a-row}
+use Rattle.refusals.proofs.OrElseLaws.{first-none, in-a-row}
 use Rattle.registers.specs.Map.{registerCount}
-use Rattle.saved.specs.Form.{newest}
-use Rattle.saved.specs.Load.{answerIn}
+use Rattle.saved.specs.Form.{Ar, Mode, newest, numberOf}
+use Rattle.saved.specs.Load.{answerIn, decodedGauge, loaded, loadedHost}
+use Rattle.saved.proofs.LoadLaws.{decoded-is, loads}
 use Rattle.drive.specs.Preview.{PreviewOfCopy}
 
 module _ (saved : List ℕ) (small : (k : ℕ) → getD saved k 0 < 256) (key : ℕ) (reply : List ℕ) where
@@ -26,24 +29,45 @@ module _ (saved : List ℕ) (small : (k : ℕ) → getD saved k 0 < 256) (key : 
   abbrev readBack : List ℕ
   readBack = readReply (callBytes saved (writeCall 0 key)) 0 registerCount 0 reply
 
-  registers-are : previewReply saved key reply ≡ cond (eqb (previewNumber saved key (length reply)) Refusal.none) readBack reply
-  registers-are = go (eqb (callNumber saved (writeCall 0 key)) 0) (eqb (length reply) registerCount) refl refl
+  abbrev obeys : ℕ
+  obeys = commandOf (decide key (numberOf Mode newest saved) (numberOf Ar newest saved))
+
+  -- what is lent afterwards, by the preview's number
+  abbrev Leaves : ℕ → Type 0
+  Leaves before =
+      (previewReply saved key reply ≡ cond (eqb (previewNumber saved key (length reply)) Refusal.none) readBack reply)
+      × (previewCommand saved key (length reply) before ≡ cond (eqb (previewNumber saved key (length reply)) Refusal.none) obeys before)
+
+  decoded-command : callNumber saved (writeCall 0 key) ≡ Refusal.none
+      → commandOf (decide key ((decodedGauge saved) .host .mode) ((decodedGauge saved) .host .ar)) ≡ obeys
+  unfolding callNumber loaded loadedHost
+  decoded-command w =
+      ap (λ (g : Gauge). commandOf (decide key (g .host .mode) (g .host .ar)))
+      (decoded-is saved (loads newest saved (first-none ((answerIn newest saved) .number) _ w) .fits))
+
+  leaves : (before : ℕ) → Leaves before
+  leaves before = go (eqb (callNumber saved (writeCall 0 key)) 0) (eqb (length reply) registerCount) refl refl
     where
-      go : (t u : Bool) → eqb (callNumber saved (writeCall 0 key)) 0 ≡ t → eqb (length reply) registerCount ≡ u
-          → previewReply saved key reply ≡ cond (eqb (previewNumber saved key (length reply)) Refusal.none) readBack reply
+      go : (t u : Bool) → eqb (callNumber saved (writeCall 0 key)) 0 ≡ t → eqb (length reply) registerCount ≡ u → Leaves before
       go true true p q =
           let w = eqb-true (callNumber saved (writeCall 0 key)) 0 p in
-          let l = eqb-true (length reply) registerCount q in
-          let a = previewed saved key reply 0 w small l refl refl refl refl refl in
-          sym (a .1 .0) ∙ sym (simp (number-is, p, q))
+          let a = previewed saved key reply before w small (eqb-true (length reply) registerCount q) refl refl refl refl refl in
+          let n : previewNumber saved key (length reply) ≡ Refusal.none = number-is ∙ simp (p, q) in
+          (sym (a .1 .0) ∙ sym (simp n), sym (a .1 .1) ∙ decoded-command w ∙ sym (simp n))
       go true false p q =
           let w = eqb-true (callNumber saved (writeCall 0 key)) 0 p in
-          let a = reply-refused saved key reply 0 w (eqb-false (length reply) registerCount q) in
-          sym (a .1 .0) ∙ sym (simp (number-is, p, q))
+          let a = reply-refused saved key reply before w (eqb-false (length reply) registerCount q) in
+          let n : previewNumber saved key (length reply) ≡ Refusal.bufferLength = number-is ∙ simp (p, q) in
+          (sym (a .1 .0) ∙ sym (simp n), sym (a .1 .1) ∙ sym (simp n))
       go false u p q =
-          let a = key-refused saved key reply 0 refl (eqb-false (callNumber saved (writeCall 0 key)) 0 p) in
-          sym (a .1 .0) ∙ sym (simp (number-is, p))
+          let a = key-refused saved key reply before refl (eqb-false (callNumber saved (writeCall 0 key)) 0 p) in
+          let n : eqb (previewNumber saved key (length reply)) Refusal.none ≡ false = simp (number-is, p) in
+          (sym (a .1 .0) ∙ sym (simp n), sym (a .1 .1) ∙ sym (simp n))
 
 pub preview-of-copy : PreviewOfCopy
 preview-of-copy saved small key reply =
-    record { number = number-is saved small key reply; registers = registers-are saved small key reply }
+    record {
+      number = number-is saved small key reply;
+      registers = (leaves saved small key reply 0) .0;
+      command = λ before. (leaves saved small key reply before) .1;
+    }

@@ -6,11 +6,13 @@ use mathlib.Core.Path.{_≡_}
 use Prim.Native.Nat.{ℕ, _<_}
 use lib.Dec.{eqb}
 use lib.ListN.{getD, length}
-use Rattle.handset.specs.Calls.{callBytes, callNumber, previewNumber, previewReply, readReply, writeCall}
+use Rattle.command.specs.Command.{commandOf, decide}
+use Rattle.handset.specs.Calls.{callBytes, callNumber, previewCommand, previewNumber, previewReply, readReply, writeCall}
 use Rattle.preview.specs.Preview.{wholeReplyRefusal}
 use Rattle.refusals.specs.Refusal as Refusal
 use Rattle.refusals.specs.Refusal.{orElse}
 use Rattle.registers.specs.Map.{registerCount}
+use Rattle.saved.specs.Form.{Ar, Mode, newest, numberOf}
 
 pub record WrittenThenRead (saved : List ℕ) (key : ℕ) (reply : List ℕ) : Type 0 where
   -- the number of the write, then 13
@@ -20,6 +22,12 @@ pub record WrittenThenRead (saved : List ℕ) (key : ℕ) (reply : List ℕ) : T
       ≡ cond (eqb (previewNumber saved key (length reply)) Refusal.none)
       (readReply (callBytes saved (writeCall 0x00 key)) 0x00 registerCount 0 reply)
       reply
+  -- "the command that would be obeyed", by the MODE and AR that stand in the bytes
+  pub command : (before : ℕ)
+      → previewCommand saved key (length reply) before
+      ≡ cond (eqb (previewNumber saved key (length reply)) Refusal.none)
+      (commandOf (decide key (numberOf Mode newest saved) (numberOf Ar newest saved)))
+      before
 
 -- for all bytes, every key and every reply
 abbrev pub PreviewOfCopy : Type 0

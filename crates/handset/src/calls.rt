@@ -1,6 +1,6 @@
-// The calls from C, whose prototypes are in include/gauge.h: a slice is a pointer and a length there. Each loads the saved bytes, makes
-// the proved call and saves; 14 is tested first, success is 0, and a refusal changes no byte of any buffer. Bytes in the form hold a gauge
-// value, and the proved call answers 14 where it is rejected, so acceptance is tested once.
+// The calls from C, whose prototypes are in include/gauge.h: a slice is a pointer and a length there, a lent number a pointer. Each loads the
+// saved bytes, makes the proved call and saves; 14 is tested first, success is 0, and a refusal changes no byte of any buffer. Bytes in the form
+// hold a gauge value, and the proved call answers 14 where it is rejected, so acceptance is tested once.
 ghost use mathlib.Core.Path.{_≡_};
 ghost use lib.ListN.{length};
 ghost use Rattle.handset.specs.Calls as Spec;
@@ -124,7 +124,7 @@ pub extern "C" fn gauge_read(
     read(gauge, address, count, reply, place)
 }
 
-// "the write done on a copy and then read". Refuses 14, 8 to 11, 13.
+// "the write done on a copy and then read": of the bytes, so that write and read are in the archive once. Refuses 14, 8 to 11, 13.
 #[no_mangle]
 pub extern "C" fn gauge_preview(saved: &[u8], key: u8, reply: &mut [u8], command: &mut u8) -> u32
     ensures number { λ r. ⌜ r ≡ Spec.previewNumber (now (saved .entry)) key (length (now (reply .entry))) ⌝ }
