@@ -20,12 +20,13 @@ use Rattle.saved.specs.Load.{answerIn, decodedGauge, loaded, loadedHost}
 use Rattle.saved.proofs.LoadLaws.{decoded-is, loads}
 use Rattle.drive.specs.Preview.{PreviewOfCopy}
 
-module _ (saved : List ℕ) (small : (k : ℕ) → getD saved k 0 < 256) (key : ℕ) (reply : List ℕ) where
-  number-is : previewNumber saved key (length reply) ≡ orElse (callNumber saved (writeCall 0 key)) (wholeReplyRefusal (length reply))
-  unfolding lookNumber callNumber previewRefusal
-  number-is =
-      in-a-row ((answerIn newest saved) .number) ((onCopy ((answerIn newest saved) .gauge) key) .number) (wholeReplyRefusal (length reply))
+number-is : (saved : List ℕ) (key : ℕ) (reply : List ℕ)
+    → previewNumber saved key (length reply) ≡ orElse (callNumber saved (writeCall 0 key)) (wholeReplyRefusal (length reply))
+unfolding lookNumber callNumber previewRefusal
+number-is saved key reply =
+    in-a-row ((answerIn newest saved) .number) ((onCopy ((answerIn newest saved) .gauge) key) .number) (wholeReplyRefusal (length reply))
 
+module _ (saved : List ℕ) (small : (k : ℕ) → getD saved k 0 < 256) (key : ℕ) (reply : List ℕ) where
   abbrev readBack : List ℕ
   readBack = readReply (callBytes saved (writeCall 0 key)) 0 registerCount 0 reply
 
@@ -52,22 +53,22 @@ module _ (saved : List ℕ) (small : (k : ℕ) → getD saved k 0 < 256) (key : 
       go true true p q =
           let w = eqb-true (callNumber saved (writeCall 0 key)) 0 p in
           let a = previewed saved key reply before w small (eqb-true (length reply) registerCount q) refl refl refl refl refl in
-          let n : previewNumber saved key (length reply) ≡ Refusal.none = number-is ∙ simp (p, q) in
+          let n : previewNumber saved key (length reply) ≡ Refusal.none = number-is saved key reply ∙ simp (p, q) in
           (sym (a .1 .0) ∙ sym (simp n), sym (a .1 .1) ∙ decoded-command w ∙ sym (simp n))
       go true false p q =
           let w = eqb-true (callNumber saved (writeCall 0 key)) 0 p in
           let a = reply-refused saved key reply before w (eqb-false (length reply) registerCount q) in
-          let n : previewNumber saved key (length reply) ≡ Refusal.bufferLength = number-is ∙ simp (p, q) in
+          let n : previewNumber saved key (length reply) ≡ Refusal.bufferLength = number-is saved key reply ∙ simp (p, q) in
           (sym (a .1 .0) ∙ sym (simp n), sym (a .1 .1) ∙ sym (simp n))
       go false u p q =
           let a = key-refused saved key reply before refl (eqb-false (callNumber saved (writeCall 0 key)) 0 p) in
-          let n : eqb (previewNumber saved key (length reply)) Refusal.none ≡ false = simp (number-is, p) in
+          let n : eqb (previewNumber saved key (length reply)) Refusal.none ≡ false = simp (number-is saved key reply, p) in
           (sym (a .1 .0) ∙ sym (simp n), sym (a .1 .1) ∙ sym (simp n))
 
 pub preview-of-copy : PreviewOfCopy
 preview-of-copy saved small key reply =
     record {
-      number = number-is saved small key reply;
+      number = number-is saved key reply;
       registers = (leaves saved small key reply 0) .0;
       command = λ before. (leaves saved small key reply before) .1;
     }

@@ -6,7 +6,6 @@ use Prim.Native.Nat.{ℕ, _<_}
 use lib.ListN.{getD, length, replicate}
 use borrow.Author.Tests.{eq-eqb}
 use Rattle.gauge.specs.Fits.{Taken}
-use Rattle.gauge.specs.declared.answer.Answer.{Answer}
 use Rattle.gauge.specs.declared.state.Gauge.{Gauge}
 use Rattle.handset.specs.Calls.{convertBytes, convertNumber}
 use Rattle.history.specs.After.{after, gaugeAfter}

@@ -1,6 +1,5 @@
 -- A2 of paper 02, "Look before writing", on the bench pack after its three windows: the preview of each command and of each refusal, worked out by
 -- hand from the papers. Definitions only; assumes nothing.
-use mathlib.Core.List.{List}
 use mathlib.Core.Path.{_≡_}
 use Prim.Native.Nat.{ℕ}
 use lib.ListN.{getD, replicate}

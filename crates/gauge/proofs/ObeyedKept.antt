@@ -2,7 +2,7 @@
 -- only where AR is above 0. Assumes nothing.
 use mathlib.Core.Bool.{Bool, true, false, not, cond}
 use mathlib.Core.List.{List}
-use mathlib.Core.Path.{_≡_, refl, sym, ap, subst, _∙_}
+use mathlib.Core.Path.{_≡_, sym, ap, subst, _∙_}
 use Prim.Native.Nat.{ℕ, _<_}
 use native.Mathlib.Omega.{arith}
 use lib.Dec.{eqb}
@@ -16,6 +16,7 @@ use Rattle.command.proofs.DecisionLaws.{wrtlmd-above}
 use Rattle.configuration.specs.Configuration.{dmf, ilmd, s0}
 use Rattle.configuration.specs.Terms.{termsOf}
 use Rattle.refusals.specs.Refusal as Refusal
+use Rattle.refusals.proofs.OrElseLaws.{not-rejected}
 use Rattle.host.proofs.HostKept.{obeyed-fits}
 use Rattle.reached.proofs.ChargeKept.{command-lmd, command-sound}
 use Rattle.sample.specs.Sample.{sampleReset}
@@ -30,7 +31,7 @@ use Rattle.gauge.specs.declared.state.Gauge.{Gauge}
 use Rattle.gauge.proofs.AcceptedLaws.{Sound, sound, sound-accepted}
 use Rattle.gauge.proofs.Standing.{Standing, standing, taken}
 
-pub opens : (c : List ℕ) → not (eqb (ilmd c) 0) ≡ true → 0 < ilmd c
+opens : (c : List ℕ) → not (eqb (ilmd c) 0) ≡ true → 0 < ilmd c
 opens c e = let n : ilmd c ≡ 0 → ⊥ = eqb-false (ilmd c) 0 (not-true (eqb (ilmd c) 0) e) in omega arith
 
 module _ (g : Gauge) (s : Sound g) where
@@ -91,19 +92,15 @@ module _ (g : Gauge) (key : ℕ) where
   written-taken k =
       taken (decided decision g) (decided-stands g (standing g k) decision (wrtlmd-above key (g .host .mode) (g .host .ar)))
 
-  not-rejected : (t : Bool) (n : ℕ) → cond t n Refusal.rejected ≡ Refusal.none → t ≡ true
-  not-rejected true n e = refl
-  not-rejected false n e = let z : ⊥ = omega arith in absurd z
-
   module _ (e : (writeAnswer g 0 key) .number ≡ Refusal.none) where
-    pub key-gauge : (writeAnswer g 0 key) .gauge ≡ written 0 key g
+    key-gauge : (writeAnswer g 0 key) .gauge ≡ written 0 key g
     unfolding writeAnswer
     key-gauge = ap (λ (n : ℕ). cond (eqb n Refusal.none) (written 0 key g) g) e
 
     pub key-accepted : accepted ((writeAnswer g 0 key) .gauge) ≡ true
     unfolding writeAnswer
     key-accepted =
-        ap accepted key-gauge ∙ written-accepted (not-rejected (accepted g) (writeRefusal (g .host .mode) (g .host .ar) 0 key) e)
+        ap accepted key-gauge ∙ written-accepted (not-rejected (accepted g) (writeRefusal (g .host .mode) (g .host .ar) 0 key) e .0)
 
     pub key-taken : Taken g → Taken ((writeAnswer g 0 key) .gauge)
     key-taken k = subst Taken (sym key-gauge) (written-taken k)

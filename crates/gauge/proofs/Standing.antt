@@ -1,13 +1,10 @@
 -- An accepted gauge of the widths that every gauge has, part by part, and back: what acceptance asks bounds every width but those of the
 -- configuration, LMD, MODE and AR. Assumes nothing.
-use mathlib.Core.Bool.{true, not}
 use mathlib.Core.List.{List}
-use mathlib.Core.Path.{_≡_}
-use Prim.Native.Nat.{ℕ, _*_, _≤_, _<_}
+use Prim.Native.Nat.{ℕ, _*_, _≤_}
 use native.Mathlib.Omega.{arith}
-use lib.Dec.{eqb}
-use borrow.Author.Tests.{eqb-false, leb-true, not-true}
-use Rattle.configuration.specs.Configuration.{dmf, ilmd, s0, sd}
+use borrow.Author.Tests.{leb-true}
+use Rattle.configuration.specs.Configuration.{dmf, s0, sd}
 use Rattle.grains.specs.Leak.{leakRate}
 use Rattle.grains.proofs.LeakLaws.{leak-rate-within}
 use Rattle.sample.specs.Limits.{leastTemperature, leastVoltage, mostTemperature, mostVoltage}

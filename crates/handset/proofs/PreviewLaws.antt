@@ -15,11 +15,9 @@ use Rattle.preview.specs.Preview as Preview
 use Rattle.preview.specs.Preview.{commandAfter, onCopy, previewRefusal, wholeReplyRefusal}
 use Rattle.preview.proofs.PreviewLaws.{reads}
 use Rattle.refusals.specs.Refusal as Refusal
-use Rattle.refusals.specs.Refusal.{orElse}
 use Rattle.refusals.proofs.OrElseLaws.{first-none, refusal-leaves, second-none, third-unasked}
 use Rattle.registers.specs.Map.{registerCount}
 use Rattle.registers.specs.Reading as Reading
-use Rattle.registers.specs.Reading.{readRefusal}
 use Rattle.saved.specs.Form.{newest, savedLength}
 use Rattle.saved.specs.Load.{answerIn, decodedGauge, formFits, loaded}
 use Rattle.saved.specs.Save.{savedBytes}
@@ -99,7 +97,7 @@ module _ (saved : List ℕ) (key : ℕ) (reply : List ℕ) (before : ℕ) where
       module _ (l : length reply ≡ registerCount) where
         copy-reads : readNumber (callBytes saved (writeCall 0 key)) 0 registerCount 0 (length reply) ≡ Refusal.none
         unfolding lookNumber copied
-        copy-reads = simp copy-loads (reads held key reply before copy-written l)
+        copy-reads = simp copy-loads (reads held key reply copy-written l)
 
         copy-shows : readReply (callBytes saved (writeCall 0 key)) 0 registerCount 0 reply ≡ Reading.replyAfter (copied .gauge) 0 registerCount 0 reply
         unfolding lookLeaves

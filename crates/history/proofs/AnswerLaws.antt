@@ -36,8 +36,3 @@ rest-in-range p t = go p (temperatureInRange t)
     go true true e = refl
     go true false e = let z : ⊥ = omega arith in absurd z
     go false r e = let z : ⊥ = omega arith in absurd z
-
--- a call with number 0 is not refused for the gauge
-pub not-rejected : (t : Bool) (n : ℕ) → cond t n Refusal.rejected ≡ 0 → n ≡ 0
-not-rejected true n e = e
-not-rejected false n e = let z : ⊥ = omega arith in absurd z

@@ -24,13 +24,14 @@ use Rattle.grains.specs.declared.run.Run.{Run}
 use Rattle.host.specs.Host.{openedHost}
 use Rattle.numbers.proofs.BoolLaws.{not-is-true}
 use Rattle.refusals.specs.Refusal as Refusal
+use Rattle.refusals.proofs.OrElseLaws.{not-rejected}
 use Rattle.history.specs.After.{after, gaugeAfter, numberOf}
 use Rattle.history.specs.Call.{Call}
 use Rattle.history.specs.Call as Call
 use Rattle.history.specs.Claim.{Agrees, Demand3, FromAnyGauge, begun, drainOf, runOf}
 use Rattle.history.specs.History.{History, afterCall, afterCalls, afterWork, openedHistory}
 use Rattle.history.specs.Refused.{refusalOf}
-use Rattle.history.proofs.AnswerLaws.{not-rejected, rest-in-range, window-in-range}
+use Rattle.history.proofs.AnswerLaws.{rest-in-range, window-in-range}
 use Rattle.history.proofs.BesideLaws.{Beside, rest-beside, window-beside, written-beside}
 use Rattle.reached.proofs.ChargeKept.{opened-bounded}
 use Rattle.host.proofs.HostKept.{opened-fits}
@@ -61,11 +62,11 @@ unfolding gaugeAfter numberOf afterCall afterWork windowAnswer restAnswer writeA
 call-beside (Call.window a v t) g x s f =
     rw (← numbers-alike (Call.window a v t) g (x .host) (sound-accepted g (s .sound)) (f .host))
     (answered-beside (unlessRejected g (sampleRefusal a v t)) g _ x _ f
-    (λ e. window-beside g x s f a v t (window-in-range a v t (not-rejected (accepted g) (sampleRefusal a v t) e))))
+    (λ e. window-beside g x s f a v t (window-in-range a v t (not-rejected (accepted g) (sampleRefusal a v t) e .1))))
 call-beside (Call.rest n t) g x s f =
     rw (← numbers-alike (Call.rest n t) g (x .host) (sound-accepted g (s .sound)) (f .host))
     (answered-beside (unlessRejected g (restRefusal n t)) g _ x _ f
-    (λ e. rest-beside g x s f n t (rest-in-range (restInRange n) t (not-rejected (accepted g) (restRefusal n t) e))))
+    (λ e. rest-beside g x s f n t (rest-in-range (restInRange n) t (not-rejected (accepted g) (restRefusal n t) e .1))))
 call-beside (Call.write address value) g x s f =
     rw (← numbers-alike (Call.write address value) g (x .host) (sound-accepted g (s .sound)) (f .host))
     (answered-beside (unlessRejected g (writeRefusal (g .host .mode) (g .host .ar) address (value .number))) g _ x _ f

@@ -1,9 +1,8 @@
 -- What is accepted stays accepted: each call leaves a charge, a sample, an SI, MODE and AR that 14 does not refuse and that fit their
 -- widths; a refused call leaves the gauge. Assumes nothing.
 use mathlib.Core.Bool.{Bool, true, false, cond}
-use mathlib.Core.Path.{_≡_, refl, ap}
+use mathlib.Core.Path.{_≡_, refl}
 use Prim.Native.Nat.{ℕ, _<_}
-use native.Mathlib.Omega.{arith}
 use lib.Dec.{eqb}
 use lib.IntN.{ℤ}
 use borrow.Author.Tests.{eqb-true}
@@ -21,13 +20,14 @@ use Rattle.gauge.proofs.ObeyedKept.{decided-stands}
 use Rattle.gauge.proofs.Standing.{Standing, bounded, rate-low, standing, taken}
 use Rattle.grains.specs.Leak.{leakRate}
 use Rattle.reached.specs.Reached.{chargeReached, reachedBy}
+use Rattle.refusals.proofs.OrElseLaws.{not-rejected}
 use Rattle.sample.specs.Current.{counted, discharge}
 use Rattle.sample.specs.Range.{current, temperature, temperatureInRange, voltage}
 use Rattle.history.specs.After.{gaugeAfter}
 use Rattle.history.specs.Call.{Call}
 use Rattle.history.specs.Call as Call
 use Rattle.history.specs.Claim.{StaysAccepted}
-use Rattle.history.proofs.AnswerLaws.{InRange, not-rejected, rest-in-range, window-in-range}
+use Rattle.history.proofs.AnswerLaws.{InRange, rest-in-range, window-in-range}
 use Rattle.reached.proofs.ChargeKept.{rest-bounded, window-bounded}
 use Rattle.command.proofs.DecisionLaws.{wrtlmd-above}
 use Rattle.host.proofs.HostKept.{full-fits, stored-fits}
@@ -112,10 +112,10 @@ pub call-stands : (call : Call) (g : Gauge) → Standing g → Standing (gaugeAf
 unfolding gaugeAfter windowAnswer restAnswer writeAnswer
 call-stands (Call.window a v t) g s =
     answered-stands (unlessRejected g (sampleRefusal a v t)) g _ s
-    (λ e. window-stands g s a v t (window-in-range a v t (not-rejected (accepted g) (sampleRefusal a v t) e)))
+    (λ e. window-stands g s a v t (window-in-range a v t (not-rejected (accepted g) (sampleRefusal a v t) e .1)))
 call-stands (Call.rest n t) g s =
     answered-stands (unlessRejected g (restRefusal n t)) g _ s
-    (λ e. rest-stands g s n t (rest-in-range (restInRange n) t (not-rejected (accepted g) (restRefusal n t) e)))
+    (λ e. rest-stands g s n t (rest-in-range (restInRange n) t (not-rejected (accepted g) (restRefusal n t) e .1)))
 call-stands (Call.write address value) g s =
     answered-stands (unlessRejected g (writeRefusal (g .host .mode) (g .host .ar) address (value .number))) g _ s
     (λ e. written-stands g s address (value .number) (value .below))

@@ -1,15 +1,12 @@
 -- Laws of the preview: each way answers what its tests pick, with the reply and the command afterwards; what it shows is the whole map of the
 -- gauge after the command. Assumes nothing.
-use mathlib.Core.Bool.{true, cond}
 use mathlib.Core.List.{List}
-use mathlib.Core.Path.{_≡_, refl, sym, ap, _∙_}
+use mathlib.Core.Path.{_≡_, sym, ap, _∙_}
 use Prim.Native.Nat.{ℕ}
 use native.Mathlib.Omega.{arith}
-use lib.Dec.{eqb}
 use lib.ListN.{length}
 use borrow.Author.Tests.{eq-eqb, ne-eqb}
 use Rattle.command.specs.Command.{commandOf, decide}
-use Rattle.gauge.specs.Accepted.{accepted}
 use Rattle.gauge.specs.declared.answer.Answer.{Answer}
 use Rattle.gauge.specs.declared.state.Gauge.{Gauge}
 use Rattle.gauge.proofs.ObeyedKept.{key-accepted}
@@ -18,6 +15,12 @@ use Rattle.registers.specs.Map.{registerCount}
 use Rattle.registers.specs.Reading as Reading
 use Rattle.registers.specs.Reading.{placeRefusal, readRefusal}
 use Rattle.preview.specs.Preview.{commandAfter, onCopy, previewRefusal, replyAfter}
+
+-- a copy of an accepted gauge is accepted after its key, and the reply has room for its registers
+pub reads : (g : Gauge) (key : ℕ) (reply : List ℕ) → (onCopy g key) .number ≡ Refusal.none → length reply ≡ registerCount
+    → readRefusal ((onCopy g key) .gauge) 0x00 registerCount 0 (length reply) ≡ Refusal.none
+unfolding readRefusal placeRefusal
+reads g key reply e l = simp (key-accepted g key e, l)
 
 module _ (g : Gauge) (key : ℕ) (reply : List ℕ) (before : ℕ) where
   -- the number, every byte of the reply and the command afterwards
@@ -29,12 +32,6 @@ module _ (g : Gauge) (key : ℕ) (reply : List ℕ) (before : ℕ) where
   refuses : (number : ℕ) → previewRefusal g key (length reply) ≡ number → (number ≡ Refusal.none → ⊥) → Answers number reply before
   unfolding replyAfter commandAfter
   refuses number e n = let f = ne-eqb number 0 n in (sym e, (simp (e, f), simp (e, f)))
-
-  -- a copy of an accepted gauge is accepted after its key, and the reply has room for its registers
-  pub reads : (onCopy g key) .number ≡ Refusal.none → length reply ≡ registerCount
-      → readRefusal ((onCopy g key) .gauge) 0x00 registerCount 0 (length reply) ≡ Refusal.none
-  unfolding readRefusal placeRefusal
-  reads e l = simp (key-accepted g key e, l)
 
   module _ {answer : Answer} (a : answer ≡ onCopy g key) where
     number-is : (onCopy g key) .number ≡ answer .number
@@ -58,7 +55,7 @@ module _ (g : Gauge) (key : ℕ) (reply : List ℕ) (before : ℕ) where
           let e = number-is ∙ z in
           let f = eq-eqb (length reply) registerCount l in
           let gauge-is : answer .gauge ≡ (onCopy g key) .gauge = ap (λ (x : Answer). x .gauge) a in (
-            p ∙ ap (λ (x : Gauge). readRefusal x 0x00 registerCount 0 (length reply)) gauge-is ∙ reads e l ∙ sym (simp (e, f)),
+            p ∙ ap (λ (x : Gauge). readRefusal x 0x00 registerCount 0 (length reply)) gauge-is ∙ reads g key reply e l ∙ sym (simp (e, f)),
             (
               q ∙ ap (λ (x : Gauge). Reading.replyAfter x 0x00 registerCount 0 reply) gauge-is ∙ simp (e, f),
               r ∙ simp (e, f),

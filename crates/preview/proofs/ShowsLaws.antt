@@ -49,7 +49,7 @@ shows g key command e d reply before l =
     let n = ap (λ (x : Answer). x .number) w in
     let next = ap (λ (x : Answer). x .gauge) w in
     let f = eq-eqb (length reply) registerCount l in
-    let r = reads g key reply before n l in
+    let r = reads g key reply n l in
     record {
       number = simp (n, f);
       handed = simp (n, f, d);

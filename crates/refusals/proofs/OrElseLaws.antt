@@ -2,9 +2,10 @@
 use mathlib.Core.Bool.{Bool, true, false, cond}
 use mathlib.Core.Path.{_≡_, refl, sym, _∙_}
 use Prim.Native.Nat.{ℕ}
+use native.Mathlib.Omega.{arith}
 use lib.Dec.{eqb}
 use borrow.Author.Tests.{eqb-true}
-use Rattle.refusals.specs.Refusal.{none, orElse}
+use Rattle.refusals.specs.Refusal.{none, orElse, rejected}
 
 -- ---- neither refuses
 
@@ -20,6 +21,12 @@ second-none m n e = sym (ends m (first-none m n e)) ∙ e
   where
     ends : (k : ℕ) → k ≡ none → orElse k n ≡ n
     ends k z = simp z
+
+-- ---- 14 before any other number
+
+pub not-rejected : (t : Bool) (n : ℕ) → cond t n rejected ≡ none → (t ≡ true) × (n ≡ none)
+not-rejected true n e = (refl, e)
+not-rejected false n e = let z : ⊥ = omega arith in absurd z
 
 -- ---- three in a row
 

@@ -78,7 +78,8 @@ host-place-requires c κs = search needs
 
 slice-write-saved : tie.Need-slice-write-saved
 slice-write-saved c =
-    let i = c .before .before .before .before .before .before in
+    let p = c .before .before .before in
+    let i = p .before .before .before in
     let f = i .before in
     let l : length (now (f .before .before .before .before .args .saved)) ≡ 41 =
     form-length newest _ (sym (f .form-fits .ensures) ∙ not-false _ (i .if2 .left)) in
