@@ -1,5 +1,4 @@
--- Laws of the preview: each way answers what its tests pick, with the reply and the command afterwards; what it shows is the whole map of the
--- gauge after the command. Assumes nothing.
+-- Laws of the preview: each way answers what its tests pick, with the reply and the command afterwards. Assumes nothing.
 use mathlib.Core.List.{List}
 use mathlib.Core.Path.{_≡_, sym, ap, _∙_}
 use Prim.Native.Nat.{ℕ}
