@@ -1,9 +1,11 @@
-/* Makes one kind of call a given number of times, for run, which takes the instructions of two such runs apart. */
+/* Makes one kind of call a given number of times, for run, which takes the instructions of two such runs apart; or, for a kind of rest
+ * that begins at DONE, prints the counts that one call loses: KIND TIMES, or KIND lost. */
 #include "bench_pack.h"
 #include "gauge.h"
 #include "older_forms.h"
 
 #include <stdbool.h>
+#include <stdio.h>
 #include <stdlib.h>
 #include <string.h>
 
@@ -25,10 +27,67 @@ static uint32_t choose_wrtnac(void)
     return gauge_write(saved, sizeof saved, GAUGE_REG_AR, 0x64) | gauge_write(saved, sizeof saved, GAUGE_REG_MODE, GAUGE_MODE_WRTNAC);
 }
 
+/* The bench pack with ILMD 255 and SD 15: from DONE no configuration leaks more. */
+static const uint8_t leaking_pack[GAUGE_CONFIGURATION_LENGTH] = {
+    0xFF, 0x5E, 0x77, 0x05, 0x2F, 0x10, 0x00, 0x00, 0x6C, 0x15,
+};
+
+/* A rest of the greatest length from DONE, named by the counts that it loses. */
+struct day_rest {
+    const char *kind;
+    const uint8_t *pack;
+    int32_t temperature;
+};
+
+static const struct day_rest day_rests[] = {
+    {"rest-2-counts", bench_pack, 1192},
+    {"rest-972-counts", leaking_pack, 1192},
+    {"rest-13929-counts", leaking_pack, 1372},
+};
+
+/* NULL for a kind that is none of these. */
+static const struct day_rest *day_rest_of(const char *kind)
+{
+    for (size_t i = 0; i < sizeof day_rests / sizeof day_rests[0]; i++)
+        if (strcmp(kind, day_rests[i].kind) == 0)
+            return &day_rests[i];
+    return NULL;
+}
+
+/* The gauge at which each of these rests begins. */
+static uint8_t at_done[GAUGE_SAVED_LENGTH];
+
+static uint32_t bring_to_done(const uint8_t *pack)
+{
+    uint32_t numbers = gauge_open(pack, GAUGE_CONFIGURATION_LENGTH, at_done, sizeof at_done);
+
+    numbers |= gauge_write(at_done, sizeof at_done, GAUGE_REG_MODE, GAUGE_MODE_DONE);
+    numbers |= gauge_write(at_done, sizeof at_done, GAUGE_REG_CTRL, GAUGE_KEY_DONE);
+    return numbers;
+}
+
+/* The copy is the caller's code, the same with empty calls, so that it cancels too. */
+static uint32_t rest_from_done(int32_t temperature)
+{
+    memcpy(saved, at_done, sizeof saved);
+    return gauge_rest(saved, sizeof saved, GAUGE_REST_MAX, temperature);
+}
+
 /* The numbers of all calls are joined, so that a refused call, which would be shorter, cannot pass unseen. */
 #define REPEAT(call)                                                                                                                 \
     for (unsigned long i = 0; i < times; i++)                                                                                        \
         *numbers |= (call)
+
+static bool repeat_from_done(const char *kind, unsigned long times, uint32_t *numbers)
+{
+    const struct day_rest *rest = day_rest_of(kind);
+
+    if (rest == NULL)
+        return false;
+    *numbers |= bring_to_done(rest->pack);
+    REPEAT(rest_from_done(rest->temperature));
+    return true;
+}
 
 /* False for a kind that is none. */
 static bool repeat(const char *kind, unsigned long times, uint32_t *numbers)
@@ -57,7 +116,30 @@ static bool repeat(const char *kind, unsigned long times, uint32_t *numbers)
     else if (strcmp(kind, "rest-16875") == 0)
         REPEAT(gauge_rest(saved, sizeof saved, 16875, 1192));
     else
+        return repeat_from_done(kind, times, numbers);
+    return true;
+}
+
+static unsigned nac_of(const uint8_t *gauge, uint32_t *numbers)
+{
+    uint8_t nac[2];
+
+    *numbers |= gauge_read(gauge, GAUGE_SAVED_LENGTH, GAUGE_REG_NAC, sizeof nac, nac, sizeof nac, 0);
+    return gauge_pair(nac);
+}
+
+/* Prints the counts that one call of the kind loses. False for a kind that does not begin at DONE. */
+static bool print_lost(const char *kind, uint32_t *numbers)
+{
+    const struct day_rest *rest = day_rest_of(kind);
+
+    if (rest == NULL)
         return false;
+    *numbers |= bring_to_done(rest->pack);
+    *numbers |= rest_from_done(rest->temperature);
+    unsigned before = nac_of(at_done, numbers);
+    unsigned after = nac_of(saved, numbers);
+    printf("%u\n", before - after);
     return true;
 }
 
@@ -66,10 +148,14 @@ int main(int arguments, char **argument)
     if (arguments != 3)
         return 2;
     const char *kind = argument[1];
-    unsigned long times = strtoul(argument[2], NULL, 10);
     uint32_t numbers = start();
+    bool known;
 
-    if (!repeat(kind, times, &numbers))
+    if (strcmp(argument[2], "lost") == 0)
+        known = print_lost(kind, &numbers);
+    else
+        known = repeat(kind, strtoul(argument[2], NULL, 10), &numbers);
+    if (!known)
         return 2;
     return numbers == GAUGE_OK ? 0 : 1;
 }

@@ -3,6 +3,7 @@
 use crate::counts::Counts;
 use crate::fields;
 use crate::previews;
+use crate::rests;
 use crate::standby;
 use crate::table::{Event, Kind, Part};
 use reference::command::{self, Command};
@@ -54,12 +55,7 @@ pub fn count(counts: &mut Counts, part: Part, before: &Standing, after: &Standin
             window(counts, part, before, current, voltage, temperature);
             standby::count(counts, part, before, after, before.configuration.counted(current));
         }
-        Call::Rest { windows, .. } => {
-            counts.add_if(part, Event::RestOfOne, windows == 1);
-            counts.add_if(part, Event::RestOfADay, windows == 16_875);
-            counts.add_if(part, Event::RestWithRun, before.run.is_some());
-            counts.add_if(part, Event::PassesInRest, before.run.is_some() && after.run.is_none());
-        }
+        Call::Rest { windows, temperature } => rests::count(counts, part, before, after, windows, temperature),
         Call::Write { address, value } => write(counts, part, before, address, value),
         Call::Read { address, count, .. } => {
             counts.add_if(part, Event::ReadAll, count == 128);

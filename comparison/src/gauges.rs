@@ -1,5 +1,6 @@
 //! Trials on gauges handed in, many of them aimed at the grain on which a rule turns.
 
+use crate::aimed_rests;
 use crate::fields::{self, Fields};
 use crate::host;
 use crate::lists;
@@ -45,7 +46,7 @@ fn first_call(random: &mut Random, fields: &mut Fields) -> Call {
         1 => empty(random, fields),
         2 => passes(random, fields),
         3 => learns(random, fields),
-        4 => passes_in_rest(random, fields),
+        4 => aimed_rests::rest(random, fields),
         5 => settles(random, fields),
         6 | 7 => command(random, fields),
         _ => any_call(random, &fields.meaning()),
@@ -61,7 +62,7 @@ pub fn any_call(random: &mut Random, configuration: &Configuration) -> Call {
         3 => host::any_preview(random),
         4 => {
             let windows = match random.below(60) {
-                0 => 16_875,
+                0 => 16_875 - random.below(2) as u32,
                 1 => random.range(1, 2_000) as u32,
                 _ => random.range(1, 6) as u32,
             };
@@ -143,15 +144,6 @@ fn learns(random: &mut Random, fields: &mut Fields) -> Call {
     fields.set_run(before + random.range(-1, 1));
     let voltage = configuration.e1() - random.amount(40) as i32;
     Call::Window { current, voltage: voltage.max(VOLTAGE_MIN), temperature }
-}
-
-/// A rest of a few windows, in which the drain comes to 65,535 × G or one grain beside it.
-fn passes_in_rest(random: &mut Random, fields: &mut Fields) -> Call {
-    let temperature = values::temperature(random, &fields.meaning());
-    let windows = random.range(1, 5);
-    let drain = windows * leaked(fields, temperature);
-    fields.set_run(GREATEST_DRAIN - drain + random.range(-1, 1));
-    Call::Rest { windows: windows as u32 + random.below(2) as u32, temperature }
 }
 
 /// A light load at which the standby current has settled, or is one sixteenth beside that.

@@ -2,6 +2,7 @@
 
 use crate::host;
 use crate::random::Random;
+use crate::rest_scenes;
 use crate::scenes;
 use crate::trial::Trial;
 use crate::writer::Writer;
@@ -47,14 +48,14 @@ fn scene(writer: &mut Writer) {
     if writer.random.one_in(UPDATE_EVERY) {
         return writer.update();
     }
-    match writer.random.below(22) {
+    match writer.random.below(23) {
         0..=2 => (0..writer.random.amount(12)).for_each(|_| scenes::any_window(writer)),
         3 | 4 => scenes::charge_up(writer),
         5 | 6 => scenes::taper(writer),
         7 | 8 => scenes::drain_empty(writer),
         9..=11 => scenes::run(writer),
         12 => scenes::end_of_discharge(writer),
-        13 => scenes::rest(writer),
+        13 => rest_scenes::rest(writer),
         14 | 15 => host::command(writer),
         16 => host::capacity(writer),
         17 => {
@@ -70,6 +71,7 @@ fn scene(writer: &mut Writer) {
             let call = host::any_preview(&mut writer.random);
             writer.call(call);
         }
+        21 => rest_scenes::aimed(writer),
         _ => {
             let call = host::out_of_range(&mut writer.random, &writer.configuration);
             writer.call(call);

@@ -2,6 +2,7 @@
 //!
 //! Ends with status 0 only if there was no difference and every event of the table occurred.
 
+mod aimed_rests;
 mod begun;
 mod both;
 mod broken;
@@ -16,11 +17,15 @@ mod host;
 mod lists;
 mod look_ahead;
 mod older;
+mod one_by_one;
 mod options;
 mod previews;
 mod program;
 mod random;
 mod report;
+mod rest_scenes;
+mod rest_steps;
+mod rests;
 mod running;
 mod scenes;
 mod shipped;

@@ -7,7 +7,9 @@ use crate::counts::Counts;
 use crate::difference::{same, same_bytes, Difference};
 use crate::events::{self, Standing};
 use crate::older;
+use crate::one_by_one;
 use crate::previews;
+use crate::rests;
 use crate::step::Step;
 use crate::table::{Event, Part};
 use crate::trial::Start;
@@ -45,6 +47,9 @@ impl<'a> Running<'a> {
     /// Makes a call on both sides and on the history, if there is one.
     fn call(&mut self, call: &Call) -> Result<(), Difference> {
         let before = self.standing();
+        if let Call::Rest { windows, temperature } = *call {
+            self.rest_one_by_one(windows, temperature)?;
+        }
         let number = self.now.both.call(call)?;
         self.counts.add_number(self.part, events::kind(call), number);
         if let Some(history) = &mut self.now.history {
@@ -59,10 +64,20 @@ impl<'a> Running<'a> {
         Ok(())
     }
 
+    /// Makes a rest on copies of the shipped gauge, at once and one by one.
+    fn rest_one_by_one(&mut self, windows: u32, temperature: i32) -> Result<(), Difference> {
+        if let Some(number) = one_by_one::compare(&self.now.both.shipped, windows, temperature)? {
+            rests::one_by_one(self.counts, self.part, windows, number);
+        }
+        Ok(())
+    }
+
     /// Counts what is told of a refused call beside its number.
     fn count_refused(&mut self, call: &Call, number: u32) {
-        if let Call::Preview { reply_length, .. } = *call {
-            previews::refused(self.counts, self.part, reply_length, number);
+        match *call {
+            Call::Preview { reply_length, .. } => previews::refused(self.counts, self.part, reply_length, number),
+            Call::Rest { windows, .. } => rests::refused(self.counts, self.part, windows, number),
+            _ => {}
         }
         if number == SAVED {
             conversions::refused(self.counts, self.part, &self.now.both.reference, call);

@@ -1,6 +1,7 @@
 //! Short scenes of a cell's use, from which lists are put together.
 
 use crate::host;
+use crate::rest_scenes;
 use crate::values;
 use crate::writer::Writer;
 use reference::history::Call;
@@ -73,7 +74,7 @@ pub fn run(writer: &mut Writer) {
     }
     for _ in 0..writer.random.amount(30) {
         if writer.random.one_in(10) {
-            rest(writer);
+            rest_scenes::rest(writer);
             continue;
         }
         if writer.random.one_in(UPDATE_EVERY) {
@@ -173,16 +174,4 @@ pub fn standby(writer: &mut Writer) {
         1 => writer.command(None, 0x02, 0xA9),
         _ => writer.update(),
     }
-}
-
-/// A rest, mostly short; now and then of a day, whose windows are many.
-pub fn rest(writer: &mut Writer) {
-    let windows = match writer.random.below(40) {
-        0 => 16_875 - writer.random.below(2) as u32,
-        1..=4 => writer.random.range(1, 600) as u32,
-        5..=9 => 1,
-        _ => writer.random.range(1, 20) as u32,
-    };
-    let temperature = writer.temperature();
-    writer.call(Call::Rest { windows, temperature });
 }

@@ -1,6 +1,7 @@
 //! Configurations and arguments at random, the edges of every rule and range favoured.
 
 use crate::random::Random;
+use crate::rest_steps::steps;
 use reference::bench::BENCH_PACK;
 use reference::configuration::Configuration;
 use reference::refusal::{CURRENT_MAX, TEMPERATURE_MAX, TEMPERATURE_MIN, VOLTAGE_MAX, VOLTAGE_MIN};
@@ -81,6 +82,17 @@ pub fn temperature(random: &mut Random, configuration: &Configuration) -> i32 {
         _ => random.range(i64::from(TEMPERATURE_MIN), i64::from(TEMPERATURE_MAX)) as i32,
     };
     temperature.clamp(TEMPERATURE_MIN, TEMPERATURE_MAX)
+}
+
+/// The length of a rest from a charge h at a rate SD × W that ends with one of its first steps, or one window beside that; any length
+/// where none of them ends in time. At least 1 window, and at most so many.
+pub fn rest_length(random: &mut Random, h: i64, rate: i64, at_most: i64) -> i64 {
+    let many = random.pick(&[1, 1, 2, 3, 5]);
+    let whole = steps(h, rate, at_most).take(many).take_while(|step| step.loses_count);
+    match whole.map(|step| step.windows).sum::<i64>() {
+        0 => random.range(1, at_most),
+        windows => (windows + random.range(-1, 1)).clamp(1, at_most),
+    }
 }
 
 /// The length of a preview's reply: 128, one byte beside it, or another. In one byte 384 would be 128.

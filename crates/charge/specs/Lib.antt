@@ -1,3 +1,4 @@
 pub mod Charge
 pub mod Obeyed
 pub mod Rest
+pub mod Step

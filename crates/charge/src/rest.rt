@@ -1,29 +1,27 @@
 // What a rest makes of the charge.
 ghost use mathlib.Core.Path.{_≡_};
 ghost use Rattle.charge.specs.Rest as Spec;
+ghost use Rattle.charge.specs.Step.{SameNac};
 use crate::charge::Charge;
+use grains::rest::rest_leak;
 
 impl Charge {
-    // One window of a rest: the leak, and the passing rule.
-    fn rested_once(self, rate: u16) -> Charge
-        ensures { λ r. ⌜ r ≡ Spec.restedOnce rate self ⌝ }
-    {
-        let mut leaked = self.leaked(rate);
-        let run = leaked.run.unless_passed();
-        leaked.run = run;
-        leaked
-    }
-
-    // n windows of a rest. The rate is the same in each.
-    pub fn rested(self, windows: u32, rate: u16) -> Charge
+    // n windows of a rest. The rate is the same in each. The run gains their leaks at once: a drain that passes in one of them passes by the sum.
+    pub fn rested(mut self, windows: u32, rate: u16) -> Charge
         ensures { λ r. ⌜ r ≡ Spec.rested windows rate self ⌝ }
     {
-        let mut charge = self;
-        let mut left = windows;
-        while 0 < left {
-            charge = charge.rested_once(rate);
-            left -= 1;
+        if windows == 0 {
+            return self;
         }
-        charge
+        let grains = rest_leak(self.held, windows, rate);
+        let run = self.run.drained(grains).unless_passed();
+        self.held -= grains;
+        self.run = run;
+        self
     }
 }
+
+// Windows of a rest that start with the same NAC are one step. The function does nothing; its contract keeps the law in the check.
+pub fn same_nac()
+    ensures { λ _. ⌜ SameNac ⌝ }
+{}

@@ -2,5 +2,6 @@ pub mod DriveLaws
 pub mod HistoryLaws
 pub mod OlderFormsLaws
 pub mod PreviewLaws
+pub mod RestsLaws
 pub mod SavedLaws
 pub mod UpdateLaws

@@ -2,6 +2,7 @@
 ghost use Rattle.drive.specs.Claim.{EveryDrive, FromOpening, FromSaved};
 ghost use Rattle.drive.specs.OlderForms.{Form1Reads, Form1Shows};
 ghost use Rattle.drive.specs.Preview.{PreviewOfCopy};
+ghost use Rattle.drive.specs.Rests.{RestCallsOfOne};
 ghost use Rattle.drive.specs.Update.{Converted, ConvertedSame, FromUpdate};
 
 pub fn every_drive()
@@ -38,4 +39,8 @@ pub fn from_update()
 
 pub fn preview_of_copy()
     ensures { λ _. ⌜ PreviewOfCopy ⌝ }
+{}
+
+pub fn rest_calls_of_one()
+    ensures { λ _. ⌜ RestCallsOfOne ⌝ }
 {}

@@ -4,6 +4,7 @@ ghost use Rattle.examples.specs.Examples.{Examples};
 ghost use Rattle.examples.specs.FormRows.{FormRows};
 ghost use Rattle.examples.specs.Numbers.{Numbers};
 ghost use Rattle.examples.specs.PreviewRows.{PreviewRows};
+ghost use Rattle.examples.specs.RestRows.{RestRows};
 ghost use Rattle.examples.specs.Rows.{Rows};
 ghost use Rattle.examples.specs.StandbyRows.{StandbyRows};
 
@@ -29,4 +30,8 @@ pub fn proved_forms()
 
 pub fn proved_previews()
     ensures { λ _. ⌜ PreviewRows ⌝ }
+{}
+
+pub fn proved_rests()
+    ensures { λ _. ⌜ RestRows ⌝ }
 {}

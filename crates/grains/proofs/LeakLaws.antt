@@ -1,18 +1,17 @@
 -- Laws of the band, the weight and the leak. Assumes nothing.
 use mathlib.Core.Bool.{Bool, true, false, _&&_, cond}
 use mathlib.Core.List.{List, [], _∷_}
-use mathlib.Core.Path.{_≡_, refl, _∙_, sym, ap}
-use mathlib.Core.Logic.{⊎-elim}
+use mathlib.Core.Path.{_≡_, refl}
 use Prim.Native.Nat.{ℕ, zero, suc, _+_, _-_, _*_, _/_, _≤_, _<_, min}
 use native.Mathlib.Nat.{mul-le-mul, le-refl}
 use native.Mathlib.Omega.{arith}
 use lib.Dec.{T, leb, leb→le}
-use lib.ListN.{length, getD}
+use lib.ListN.{getD}
 use borrow.Author.Tests.{leb-true, leb-false}
 use Rattle.grains.specs.Grains.{grainsPerCount, nac}
 use Rattle.numbers.proofs.EveryLaws.{first-passes, rest-passes}
 use Rattle.numbers.proofs.ProductLaws.{product-within}
-use Rattle.grains.specs.Leak.{bandTable, bandRises, reached, band, weight, leakRate, leak}
+use Rattle.grains.specs.Leak.{bandTable, reached, band, weight, leakRate, leak}
 
 -- n temperatures from first on, 40 quarter kelvins apart
 abbrev everyForty : ℕ → ℕ → List ℕ
@@ -37,12 +36,13 @@ band-is t = reached-every-forty t 1092 7
 pub band-below : (t : ℕ) → band t < 8
 band-below t = let e = band-is t in omega arith
 
--- a leak never exceeds the charge held, at any rate up to G
-pub leak-within : (held rate : ℕ) → rate ≤ grainsPerCount → leak held rate ≤ held
+-- a leak never exceeds the whole counts held, at any rate up to G
+pub leak-within-counts : (held rate : ℕ) → rate ≤ grainsPerCount → leak held rate ≤ nac held * grainsPerCount
 unfolding leak
-leak-within held rate h =
-    let p : nac held * rate ≤ nac held * grainsPerCount = mul-le-mul (le-refl _) h in
-    omega arith
+leak-within-counts held rate h = mul-le-mul (le-refl (nac held)) h
+
+pub leak-within : (held rate : ℕ) → rate ≤ grainsPerCount → leak held rate ≤ held
+leak-within held rate h = let p = leak-within-counts held rate h in omega arith
 
 allWithin : ℕ → List ℕ → Bool
 allWithin most [] = true

@@ -1,1 +1,3 @@
 pub mod LeakLaws
+pub mod RestLaws
+pub mod StepLaws

@@ -1,4 +1,5 @@
 pub mod Grains
 pub mod Leak
 pub mod Learning
+pub mod Rest
 pub mod Run

@@ -4,6 +4,7 @@ pub mod CommandTracks
 pub mod DifferenceLaws
 pub mod ListLaws
 pub mod NumberLaws
+pub mod RestLaws
 pub mod RestTracks
 pub mod StayLaws
 pub mod SumTracks

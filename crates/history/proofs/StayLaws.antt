@@ -57,7 +57,7 @@ module _ (g : Gauge) (s : Standing g) where
         host = full-fits _ (g .host) (s .host);
       }
 
-  rest-stands : (n : ℕ) (t : ℤ) → temperatureInRange t ≡ true → Standing (rest n (temperature t) g)
+  pub rest-stands : (n : ℕ) (t : ℤ) → temperatureInRange t ≡ true → Standing (rest n (temperature t) g)
   unfolding rest
   rest-stands n t r =
       let c = g .configuration in

@@ -5,5 +5,6 @@ pub mod Claim
 pub mod Drain
 pub mod History
 pub mod Refused
+pub mod Rests
 pub mod Sums
 pub mod Tests
