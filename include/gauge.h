@@ -25,8 +25,8 @@ extern "C" {
 #endif
 
 /* The version of the calls and of this file; a new minor one adds, a new major one changes. */
-#define GAUGE_VERSION "2.1.0"
-#define GAUGE_VERSION_NUMBER 20100 /* 10000 * major + 100 * minor + the rest */
+#define GAUGE_VERSION "2.1.1"
+#define GAUGE_VERSION_NUMBER 20101 /* 10000 * major + 100 * minor + the rest */
 
 /* The form of the saved bytes, which is their first byte. gauge_convert also reads the older ones, from GAUGE_FORM_OLDEST on. */
 #define GAUGE_FORM 2
@@ -155,7 +155,8 @@ uint32_t gauge_window(uint8_t *saved, size_t saved_length, int32_t current, int3
 
 /*
  * Windows without current that were not measured one by one, 1 to 16875 of them, all at one temperature: the handset
- * was off. Takes the cell's own leak; VOLT keeps its last value. Success leaves the gauge after the rest in saved.
+ * was off. Takes the cell's own leak; VOLT keeps its last value. Success leaves the gauge after the rest in saved, the same as after
+ * as many rests of 1 at that temperature.
  * Refuses, in this order: 14, 6, 5.
  */
 uint32_t gauge_rest(uint8_t *saved, size_t saved_length, uint32_t windows, int32_t temperature);

@@ -112,13 +112,24 @@ static void rows(void)
     }
 }
 
-/* SI settles at the standby load, so STTE comes to be the TTE of that load. A rest counts no current and keeps SI. */
+/* SI settles at the standby load, so STTE comes to be the TTE of that load. */
 static void standby(void)
 {
     windows(40, -15, 3800, 1196);
     show("standby");
-    must("gauge_rest", gauge_rest(saved, sizeof saved, 16875, 1180));
+}
+
+/* A rest counts no current and keeps SI. A handset that wakes in every window may make rests of one: the gauge ends the same. */
+static void day_off(void)
+{
+    uint8_t woken[GAUGE_SAVED_LENGTH];
+
+    memcpy(woken, saved, sizeof woken);
+    must("gauge_rest", gauge_rest(saved, sizeof saved, GAUGE_REST_MAX, 1180));
     show("a day off");
+    for (int window = 0; window < GAUGE_REST_MAX; window++)
+        must("gauge_rest", gauge_rest(woken, sizeof woken, 1, 1180));
+    printf("%-24s gauge %s\n", "woken in every window", memcmp(woken, saved, sizeof woken) == 0 ? "equal" : "differs");
 }
 
 /* The charger reports that the cell is full; NAC is set to LMD and a run begins. */
@@ -148,6 +159,7 @@ int main(void)
     on_the_charger();
     rows();
     standby();
+    day_off();
     done_by_the_host();
     learning_run();
     show_refusals();

@@ -14,30 +14,30 @@ use Rattle.gauge.specs.declared.state.Gauge.{Gauge}
 use Rattle.handset.specs.Calls.{callBytes, callNumber}
 use Rattle.history.specs.Call as Call
 use Rattle.history.specs.Rests as Gauges
-use Rattle.history.proofs.RestLaws.{rests-of-one}
+use Rattle.history.proofs.RestsLaws.{rests-of-one}
 use Rattle.refusals.specs.Refusal as Refusal
 use Rattle.saved.specs.Form.{newest}
 use Rattle.saved.specs.Load.{answerIn, loaded}
 use Rattle.saved.specs.Save.{savedBytes}
 use Rattle.drive.specs.Drive.{bytesAfter, calledBytes, calledNumber}
-use Rattle.drive.specs.Rests.{OneByOne, RestCallsOfOne, ones}
+use Rattle.drive.specs.Rests.{OneByOne, RestCallsOfOne, restsOfOne}
 use Rattle.drive.proofs.DriveLaws.{list-bytes, list-taken, step-bytes, step-numbers}
 use Rattle.drive.proofs.SavedLaws.{load-taken, same-bytes}
 
 -- ---- the bytes of an accepted gauge
 
 module _ (g : Gauge) (k : Taken g) (n : ℕ) (r : restInRange n ≡ true) (t : ℤ) where
-  saved-ones : (j : ℕ) → ones j t (savedBytes g) ≡ savedBytes (Gauges.ones j t g)
-  saved-ones j = list-bytes (replicate j (Call.rest 1 t)) g k
+  saved-restsOfOne : (j : ℕ) → restsOfOne j t (savedBytes g) ≡ savedBytes (Gauges.restsOfOne j t g)
+  saved-restsOfOne j = list-bytes (replicate j (Call.rest 1 t)) g k
 
   saved-rests : OneByOne n t (savedBytes g)
   saved-rests =
       let o = rests-of-one g (k .fits) n r t in
       record {
-        bytes = saved-ones n ∙ ap savedBytes (o .gauge) ∙ sym (step-bytes g k (Call.rest n t));
+        bytes = saved-restsOfOne n ∙ ap savedBytes (o .gauge) ∙ sym (step-bytes g k (Call.rest n t));
         numbers = λ j h.
-            ap (calledNumber (Call.rest 1 t)) (saved-ones j)
-            ∙ step-numbers (Gauges.ones j t g) (list-taken (replicate j (Call.rest 1 t)) g k) (Call.rest 1 t)
+            ap (calledNumber (Call.rest 1 t)) (saved-restsOfOne j)
+            ∙ step-numbers (Gauges.restsOfOne j t g) (list-taken (replicate j (Call.rest 1 t)) g k) (Call.rest 1 t)
             ∙ o .numbers j h ∙ sym (step-numbers g k (Call.rest n t));
       }
 
@@ -52,10 +52,10 @@ module _ (saved : List ℕ) (e : eqb ((answerIn newest saved) .number) Refusal.n
   unfolding calledBytes callBytes callNumber
   rejected-bytes n = simp e
 
-  rejected-ones : (n : ℕ) → ones n t saved ≡ saved
+  rejected-restsOfOne : (n : ℕ) → restsOfOne n t saved ≡ saved
   unfolding bytesAfter
-  rejected-ones zero = refl
-  rejected-ones (suc n) = ap (bytesAfter (replicate n (Call.rest 1 t))) (rejected-bytes 1) ∙ rejected-ones n
+  rejected-restsOfOne zero = refl
+  rejected-restsOfOne (suc n) = ap (bytesAfter (replicate n (Call.rest 1 t))) (rejected-bytes 1) ∙ rejected-restsOfOne n
 
 -- ---- all bytes
 
@@ -70,7 +70,7 @@ rest-calls-of-one saved small n r t = go (eqb ((answerIn newest saved) .number) 
         rw b at o
     go false e =
         record {
-          bytes = rejected-ones saved e t n ∙ sym (rejected-bytes saved e t n);
+          bytes = rejected-restsOfOne saved e t n ∙ sym (rejected-bytes saved e t n);
           numbers = λ k h.
-              ap (calledNumber (Call.rest 1 t)) (rejected-ones saved e t k) ∙ rejected-number saved e t 1 ∙ sym (rejected-number saved e t n);
+              ap (calledNumber (Call.rest 1 t)) (rejected-restsOfOne saved e t k) ∙ rejected-number saved e t 1 ∙ sym (rejected-number saved e t n);
         }

@@ -10,13 +10,13 @@ use Rattle.history.specs.Call.{rest}
 use Rattle.drive.specs.Drive.{bytesAfter, calledBytes, calledNumber}
 
 -- n calls with one window
-abbrev pub ones : ℕ → ℤ → List ℕ → List ℕ
-ones n t saved = bytesAfter (replicate n (rest 1 t)) saved
+abbrev pub restsOfOne : ℕ → ℤ → List ℕ → List ℕ
+restsOfOne n t saved = bytesAfter (replicate n (rest 1 t)) saved
 
 pub record OneByOne (n : ℕ) (t : ℤ) (saved : List ℕ) : Type 0 where
-  pub bytes : ones n t saved ≡ calledBytes (rest n t) saved
+  pub bytes : restsOfOne n t saved ≡ calledBytes (rest n t) saved
   -- each of them is accepted where the one call is, and else refused with its number
-  pub numbers : (k : ℕ) → k < n → calledNumber (rest 1 t) (ones k t saved) ≡ calledNumber (rest n t) saved
+  pub numbers : (k : ℕ) → k < n → calledNumber (rest 1 t) (restsOfOne k t saved) ≡ calledNumber (rest n t) saved
 
 -- for all bytes, every number of windows from 1 to the limit and every temperature
 abbrev pub RestCallsOfOne : Type 0

@@ -4,7 +4,7 @@ pub mod CommandTracks
 pub mod DifferenceLaws
 pub mod ListLaws
 pub mod NumberLaws
-pub mod RestLaws
+pub mod RestsLaws
 pub mod RestTracks
 pub mod StayLaws
 pub mod SumTracks

@@ -11,14 +11,14 @@ use Rattle.history.specs.After.{after, gaugeAfter, numberOf}
 use Rattle.history.specs.Call.{rest}
 
 -- n rests of one window, each a call
-abbrev pub ones : ℕ → ℤ → Gauge → Gauge
-ones n t g = after (replicate n (rest 1 t)) g
+abbrev pub restsOfOne : ℕ → ℤ → Gauge → Gauge
+restsOfOne n t g = after (replicate n (rest 1 t)) g
 
 pub record OneByOne (n : ℕ) (t : ℤ) (g : Gauge) : Type 0 where
   -- the whole gauge
-  pub gauge : ones n t g ≡ gaugeAfter (rest n t) g
+  pub gauge : restsOfOne n t g ≡ gaugeAfter (rest n t) g
   -- each of the rests of one is accepted where the rest of n is, and else refused with its number
-  pub numbers : (k : ℕ) → k < n → numberOf (rest 1 t) (ones k t g) ≡ numberOf (rest n t) g
+  pub numbers : (k : ℕ) → k < n → numberOf (rest 1 t) (restsOfOne k t g) ≡ numberOf (rest n t) g
 
 -- for every gauge value, every number of windows from 1 to the limit and every temperature
 abbrev pub RestsOfOne : Type 0

@@ -1,5 +1,5 @@
 -- The claim is `rests-of-one` of the laws on rests. Assumes nothing.
-use Rattle.history.proofs.RestLaws.{rests-of-one}
+use Rattle.history.proofs.RestsLaws.{rests-of-one}
 use Rattle.history.proofs.rests_of_one.Statement.{statement}
 use Rattle.history.proofs.rests_of_one.Tie as tie
 

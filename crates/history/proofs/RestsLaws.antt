@@ -23,7 +23,7 @@ use Rattle.sample.specs.Range.{temperature, temperatureInRange, temperatureRefu
 use Rattle.sample.specs.Sample.{sampleRested}
 use Rattle.history.specs.After.{after, gaugeAfter, numberOf}
 use Rattle.history.specs.Call as Call
-use Rattle.history.specs.Rests.{OneByOne, RestsOfOne, ones}
+use Rattle.history.specs.Rests.{OneByOne, RestsOfOne, restsOfOne}
 use Rattle.history.proofs.AnswerLaws.{rest-in-range}
 use Rattle.history.proofs.ListLaws.{list-stays}
 use Rattle.history.proofs.StayLaws.{rest-stands}
@@ -52,7 +52,7 @@ module _ (t : ℤ) (g : Gauge) (refused : eqb (number t g) Refusal.none ≡ fals
   stays : (n : ℕ) → restInRange n ≡ true → gaugeAfter (Call.rest n t) g ≡ g
   stays n r = gauge-is n r t g ∙ simp refused
 
-  all-stay : (k : ℕ) → ones k t g ≡ g
+  all-stay : (k : ℕ) → restsOfOne k t g ≡ g
   unfolding after
   all-stay zero = refl
   all-stay (suc k) = ap (λ (x : Gauge). after (replicate k (Call.rest 1 t)) x) (stays 1 refl) ∙ all-stay k
@@ -64,20 +64,20 @@ rest-joined : (n t : ℕ) (g : Gauge) → rest (suc n) t (rest 1 t g) ≡ rest (
 unfolding rest rested sampleRested
 rest-joined n t g = refl
 
-module _ (t : ℤ) (warm : temperatureInRange t ≡ true) where
+module _ (t : ℤ) (inRange : temperatureInRange t ≡ true) where
   taken-number : (g : Gauge) → Standing g → number t g ≡ Refusal.none
   unfolding number
-  taken-number g s = simp (sound-accepted g (s .sound), warm)
+  taken-number g s = simp (sound-accepted g (s .sound), inRange)
 
   taken-gauge : (n : ℕ) → restInRange n ≡ true → (g : Gauge) → Standing g → gaugeAfter (Call.rest n t) g ≡ rest n (temperature t) g
   taken-gauge n r g s = gauge-is n r t g ∙ simp (taken-number g s)
 
-  all-rest : (n : ℕ) (g : Gauge) → Standing g → ones (suc n) t g ≡ rest (suc n) (temperature t) g
+  all-rest : (n : ℕ) (g : Gauge) → Standing g → restsOfOne (suc n) t g ≡ rest (suc n) (temperature t) g
   unfolding after
   all-rest zero g s = taken-gauge 1 refl g s
   all-rest (suc n) g s =
-      ap (λ (x : Gauge). ones (suc n) t x) (taken-gauge 1 refl g s)
-      ∙ all-rest n (rest 1 (temperature t) g) (rest-stands g s 1 t warm) ∙ rest-joined n (temperature t) g
+      ap (λ (x : Gauge). restsOfOne (suc n) t x) (taken-gauge 1 refl g s)
+      ∙ all-rest n (rest 1 (temperature t) g) (rest-stands g s 1 t inRange) ∙ rest-joined n (temperature t) g
 
   all-taken : (n : ℕ) → restInRange n ≡ true → (g : Gauge) → Standing g → OneByOne n t g
   all-taken zero r g s = absurd (not-suc-le-zero (some-windows 0 r))
@@ -85,7 +85,7 @@ module _ (t : ℤ) (warm : temperatureInRange t ≡ true) where
       record {
         gauge = all-rest n g s ∙ sym (taken-gauge (suc n) r g s);
         numbers = λ k h.
-            number-is 1 refl t (ones k t g) ∙ taken-number (ones k t g) (list-stays (replicate k (Call.rest 1 t)) g s)
+            number-is 1 refl t (restsOfOne k t g) ∙ taken-number (restsOfOne k t g) (list-stays (replicate k (Call.rest 1 t)) g s)
             ∙ sym (number-is (suc n) r t g ∙ taken-number g s);
       }
 
