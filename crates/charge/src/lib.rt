@@ -2,3 +2,4 @@
 pub mod charge;
 pub mod obeyed;
 pub mod rest;
+pub mod step;

@@ -1,7 +1,6 @@
 // What a rest makes of the charge.
 ghost use mathlib.Core.Path.{_≡_};
 ghost use Rattle.charge.specs.Rest as Spec;
-ghost use Rattle.charge.specs.Step.{SameNac};
 use crate::charge::Charge;
 use grains::rest::rest_leak;
 
@@ -20,8 +19,3 @@ impl Charge {
         self
     }
 }
-
-// Windows of a rest that start with the same NAC are one step. The function does nothing; its contract keeps the law in the check.
-pub fn same_nac()
-    ensures { λ _. ⌜ SameNac ⌝ }
-{}
