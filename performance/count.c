@@ -17,14 +17,20 @@ static uint8_t command;
 /* A gauge on its way from full, so that a window takes the discharge path and TTE, CAC and FCAC are divided out. */
 static uint32_t start(void)
 {
-    return gauge_open(bench_pack, sizeof bench_pack, saved, sizeof saved) |
-           gauge_window(saved, sizeof saved, 20, 4150, 1192) | gauge_window(saved, sizeof saved, -3000, 3600, 1192);
+    uint32_t numbers = gauge_open(bench_pack, sizeof bench_pack, saved, sizeof saved);
+
+    numbers |= gauge_window(saved, sizeof saved, 20, 4150, 1192);
+    numbers |= gauge_window(saved, sizeof saved, -3000, 3600, 1192);
+    return numbers;
 }
 
 /* A host about to set NAC: a preview then has a command to show. */
 static uint32_t choose_wrtnac(void)
 {
-    return gauge_write(saved, sizeof saved, GAUGE_REG_AR, 0x64) | gauge_write(saved, sizeof saved, GAUGE_REG_MODE, GAUGE_MODE_WRTNAC);
+    uint32_t numbers = gauge_write(saved, sizeof saved, GAUGE_REG_AR, 0x64);
+
+    numbers |= gauge_write(saved, sizeof saved, GAUGE_REG_MODE, GAUGE_MODE_WRTNAC);
+    return numbers;
 }
 
 /* The bench pack with ILMD 255 and SD 15: from DONE no configuration leaks more. */

@@ -59,9 +59,12 @@ static uint32_t read(uint32_t count)
 static uint32_t preview(enum gauge_command bit, enum gauge_key key, size_t reply_length, uint8_t *command)
 {
     uint8_t saved[GAUGE_SAVED_LENGTH], reply[GAUGE_REGISTERS + 1];
-    uint32_t number = gauge_open(bench_pack, sizeof bench_pack, saved, sizeof saved) |
-                      gauge_write(saved, sizeof saved, GAUGE_REG_AR, 1) | gauge_write(saved, sizeof saved, GAUGE_REG_MODE, (uint8_t)bit);
+    uint32_t number = gauge_open(bench_pack, sizeof bench_pack, saved, sizeof saved);
 
+    if (number == GAUGE_OK)
+        number = gauge_write(saved, sizeof saved, GAUGE_REG_AR, 1);
+    if (number == GAUGE_OK)
+        number = gauge_write(saved, sizeof saved, GAUGE_REG_MODE, (uint8_t)bit);
     return number != GAUGE_OK ? number : gauge_preview(saved, sizeof saved, (uint8_t)key, reply, reply_length, command);
 }
 
