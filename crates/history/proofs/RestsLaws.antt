@@ -1,6 +1,7 @@
 -- A rest of n windows is n rests of one: its definition goes window by window, TEMP and the sample stand after the first as after the last, and every
 -- gauge on the way is accepted. Where the first is refused, nothing moves and each is refused alike. Assumes nothing.
 use mathlib.Core.Bool.{Bool, true, false, cond}
+use mathlib.Core.List.{List, [], _∷_}
 use mathlib.Core.Path.{_≡_, refl, sym, ap, _∙_}
 use Prim.Native.Nat.{ℕ, zero, suc, _<_}
 use native.Mathlib.Nat.{not-suc-le-zero}
@@ -23,7 +24,8 @@ use Rattle.sample.specs.Range.{temperature, temperatureInRange, temperatureRefu
 use Rattle.sample.specs.Sample.{sampleRested}
 use Rattle.history.specs.After.{after, gaugeAfter, numberOf}
 use Rattle.history.specs.Call as Call
-use Rattle.history.specs.Rests.{OneByOne, RestsOfOne, restsOfOne}
+use Rattle.history.specs.Call.{Call}
+use Rattle.history.specs.Rests.{OneByOne, RestsOfOne}
 use Rattle.history.proofs.AnswerLaws.{rest-in-range}
 use Rattle.history.proofs.ListLaws.{list-stays}
 use Rattle.history.proofs.StayLaws.{rest-stands}
@@ -48,14 +50,24 @@ some-windows n r = ltb-true 0 n (and-left (ltb 0 n) (leb n longestRest) r)
 
 -- ---- where the first is refused
 
-module _ (t : ℤ) (g : Gauge) (refused : eqb (number t g) Refusal.none ≡ false) where
-  stays : (n : ℕ) → restInRange n ≡ true → gaugeAfter (Call.rest n t) g ≡ g
-  stays n r = gauge-is n r t g ∙ simp refused
+-- for whatever calls move: where neither call moves it, none of them does
+pub nothing-moves : {S : Type 0} {all : List Call → S → S} {one : Call → S → S} {number : Call → S → ℕ} (n : ℕ) (t : ℤ) (s : S)
+    → all [] s ≡ s → ((calls : List Call) → all (Call.rest 1 t ∷ calls) s ≡ all calls s) → one (Call.rest n t) s ≡ s
+    → number (Call.rest 1 t) s ≡ number (Call.rest n t) s → OneByOne all one number n t s
+nothing-moves {S} {all} {one} {number} n t s none next stays same =
+    record { whole = still n ∙ sym stays; numbers = λ k h. ap (number (Call.rest 1 t)) (still k) ∙ same }
+  where
+    still : (k : ℕ) → all (replicate k (Call.rest 1 t)) s ≡ s
+    still zero = none
+    still (suc k) = next (replicate k (Call.rest 1 t)) ∙ still k
 
-  all-stay : (k : ℕ) → restsOfOne k t g ≡ g
-  unfolding after
-  all-stay zero = refl
-  all-stay (suc k) = ap (λ (x : Gauge). after (replicate k (Call.rest 1 t)) x) (stays 1 refl) ∙ all-stay k
+all-refused : (n : ℕ) → restInRange n ≡ true → (t : ℤ) (g : Gauge) → eqb (number t g) Refusal.none ≡ false → OneByOne after gaugeAfter numberOf n t g
+unfolding after
+all-refused n r t g refused =
+    nothing-moves n t g refl (λ calls. ap (after calls) (stays 1 refl)) (stays n r) (number-is 1 refl t g ∙ sym (number-is n r t g))
+  where
+    stays : (k : ℕ) → restInRange k ≡ true → gaugeAfter (Call.rest k t) g ≡ g
+    stays k i = gauge-is k i t g ∙ simp refused
 
 -- ---- where it is accepted
 
@@ -72,20 +84,21 @@ module _ (t : ℤ) (inRange : temperatureInRange t ≡ true) where
   taken-gauge : (n : ℕ) → restInRange n ≡ true → (g : Gauge) → Standing g → gaugeAfter (Call.rest n t) g ≡ rest n (temperature t) g
   taken-gauge n r g s = gauge-is n r t g ∙ simp (taken-number g s)
 
-  all-rest : (n : ℕ) (g : Gauge) → Standing g → restsOfOne (suc n) t g ≡ rest (suc n) (temperature t) g
+  all-rest : (n : ℕ) (g : Gauge) → Standing g → after (replicate (suc n) (Call.rest 1 t)) g ≡ rest (suc n) (temperature t) g
   unfolding after
   all-rest zero g s = taken-gauge 1 refl g s
   all-rest (suc n) g s =
-      ap (λ (x : Gauge). restsOfOne (suc n) t x) (taken-gauge 1 refl g s)
+      ap (after (replicate (suc n) (Call.rest 1 t))) (taken-gauge 1 refl g s)
       ∙ all-rest n (rest 1 (temperature t) g) (rest-stands g s 1 t inRange) ∙ rest-joined n (temperature t) g
 
-  all-taken : (n : ℕ) → restInRange n ≡ true → (g : Gauge) → Standing g → OneByOne n t g
+  all-taken : (n : ℕ) → restInRange n ≡ true → (g : Gauge) → Standing g → OneByOne after gaugeAfter numberOf n t g
   all-taken zero r g s = absurd (not-suc-le-zero (some-windows 0 r))
   all-taken (suc n) r g s =
       record {
-        gauge = all-rest n g s ∙ sym (taken-gauge (suc n) r g s);
+        whole = all-rest n g s ∙ sym (taken-gauge (suc n) r g s);
         numbers = λ k h.
-            number-is 1 refl t (restsOfOne k t g) ∙ taken-number (restsOfOne k t g) (list-stays (replicate k (Call.rest 1 t)) g s)
+            let calls = replicate k (Call.rest 1 t) in
+            number-is 1 refl t (after calls g) ∙ taken-number (after calls g) (list-stays calls g s)
             ∙ sym (number-is (suc n) r t g ∙ taken-number g s);
       }
 
@@ -95,12 +108,8 @@ pub rests-of-one : RestsOfOne
 unfolding number
 rests-of-one g fits n r t = go (eqb (number t g) Refusal.none) refl
   where
-    go : (b : Bool) → eqb (number t g) Refusal.none ≡ b → OneByOne n t g
+    go : (b : Bool) → eqb (number t g) Refusal.none ≡ b → OneByOne after gaugeAfter numberOf n t g
     go true e =
         let p = not-rejected (accepted g) (temperatureRefusal t) (eqb-true (number t g) Refusal.none e) in
         all-taken t (rest-in-range true t (p .1)) n r g (standing g (record { fits = fits; accepted = p .0 }))
-    go false e =
-        record {
-          gauge = all-stay t g e n ∙ sym (stays t g e n r);
-          numbers = λ k h. ap (numberOf (Call.rest 1 t)) (all-stay t g e k) ∙ number-is 1 refl t g ∙ sym (number-is n r t g);
-        }
+    go false e = all-refused n r t g e

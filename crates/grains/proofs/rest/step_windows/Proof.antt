@@ -8,7 +8,7 @@ use Rattle.grains.proofs.rest.step_windows.Tie as tie
 returns : tie.Need-returns
 returns c =
     let e = c .before in
-    step-one (e .args .held) (e .args .grains) (e .args .left) (e .pre) (c .if1 .taken)
+    step-one (e .args .held) (e .args .grains) (e .args .left) (e .pre) (omega arith)
 
 returns-2 : tie.Need-returns-2
 returns-2 c =
@@ -22,7 +22,7 @@ returns-3 : tie.Need-returns-3
 returns-3 c =
     let p = c .before in
     let e = p .before .before in
-    step-rest (e .args .held) (e .args .grains) (e .args .left) (e .pre) (p .if2 .left) (c .if3 .taken)
+    step-rest (e .args .held) (e .args .grains) (e .args .left) (e .pre) (p .if2 .left) (omega arith)
 
 cast-result : tie.Need-cast-result
 cast-result c = search needs
