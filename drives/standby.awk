@@ -32,7 +32,7 @@ NR == 1 {
     next
 }
 
-/^#/ || $at["number"] != 0 || $call == "read" || $call == "preview" { next }
+/^#/ || $at["number"] != 0 || $call == "read" || $call == "preview" || $call == "estimate" { next }
 $call == "open" { opened($(call + 4)) }
 $call == "load" { opened($(call + 5)) } # the form stands before the ten bytes
 $call == "reset" || $call == "partial" { form_1 = s0 }

@@ -1,7 +1,7 @@
 /*
- * The battery gauge's seven calls for C (C99 and later) and C++ firmware.
+ * The battery gauge's eight calls for C (C99 and later) and C++ firmware.
  *
- * The firmware owns the gauge: 41 bytes that it keeps in RAM and copies to non-volatile memory as it likes. Every call
+ * The firmware owns the gauge: 43 bytes that it keeps in RAM and copies to non-volatile memory as it likes. Every call
  * gets those bytes and keeps nothing between calls: no writable static data, no allocation. So a gauge may be copied, and two
  * gauges may be used from two threads. One gauge must not be used by two calls at once, nor by an interrupt during a call.
  *
@@ -25,15 +25,15 @@ extern "C" {
 #endif
 
 /* The version of the calls and of this file; a new minor one adds, a new major one changes. */
-#define GAUGE_VERSION "2.1.1"
-#define GAUGE_VERSION_NUMBER 20101 /* 10000 * major + 100 * minor + the rest */
+#define GAUGE_VERSION "3.0.0"
+#define GAUGE_VERSION_NUMBER 30000 /* 10000 * major + 100 * minor + the rest */
 
 /* The form of the saved bytes, which is their first byte. gauge_convert also reads the older ones, from GAUGE_FORM_OLDEST on. */
-#define GAUGE_FORM 2
+#define GAUGE_FORM 3
 #define GAUGE_FORM_OLDEST 1
 
 #define GAUGE_CONFIGURATION_LENGTH 10
-#define GAUGE_SAVED_LENGTH 41
+#define GAUGE_SAVED_LENGTH 43
 #define GAUGE_REGISTERS 128
 
 /* What a call accepts. A value outside is refused, never cut to the range. */
@@ -43,6 +43,15 @@ extern "C" {
 #define GAUGE_TEMPERATURE_MIN 1012 /* quarter kelvins: -20 degrees Celsius */
 #define GAUGE_TEMPERATURE_MAX 1372 /* 70 degrees Celsius */
 #define GAUGE_REST_MAX 16875       /* windows of 5.12 s: one day */
+
+/* What gauge_estimate asks for: windows of rest, 36 minutes of them, and a voltage that its table has. */
+#define GAUGE_ESTIMATE_REST_MIN 422     /* windows of rest since the last current */
+#define GAUGE_ESTIMATE_VOLTAGE_MIN 3000 /* mV */
+#define GAUGE_ESTIMATE_VOLTAGE_MAX 4200
+#define GAUGE_ESTIMATE_VOLTAGE_STEP 4 /* from one entry of the table to the next */
+
+/* Where the gauge's count of rest windows stops. */
+#define GAUGE_REST_COUNT_MAX 65535
 
 enum gauge_refusal {
     GAUGE_OK = 0,
@@ -58,8 +67,10 @@ enum gauge_refusal {
     GAUGE_REFUSED_NOT_CARRIED = 10,         /* the command does not belong to this key */
     GAUGE_REFUSED_LMD_ZERO = 11,            /* WRTLMD with AR 0 */
     GAUGE_REFUSED_COUNT = 12,               /* count 0, or address + count above 128 */
-    GAUGE_REFUSED_REPLY = 13,               /* place + count beyond the reply; preview: not 128 bytes; open, convert: saved not 41 */
-    GAUGE_REFUSED_SAVED = 14                /* the saved bytes are no gauge: damaged, cleared, of another length or form */
+    GAUGE_REFUSED_REPLY = 13,               /* place + count beyond the reply; preview: not 128 bytes; open, convert: saved not 43 */
+    GAUGE_REFUSED_SAVED = 14,               /* the saved bytes are no gauge: damaged, cleared, of another length or form */
+    GAUGE_REFUSED_NOT_RESTED = 15,          /* estimate: fewer than 422 rest windows since the last current, opening or reset */
+    GAUGE_REFUSED_ESTIMATE_VOLTAGE = 16     /* estimate: outside 3000 to 4200, the table's range */
 };
 
 /* Register addresses, named as in the bqJUNIOR data sheet. "pair": two bytes, low byte first. Bytes not named here read 0. */
@@ -133,7 +144,7 @@ enum gauge_command_number {
 
 /*
  * Makes a new gauge from the ten configuration bytes (order 0x76 to 0x7F): empty, LMD = 256 * ILMD, CI set, nothing measured.
- * Success fills the 41 bytes at saved; what stood there does not matter.
+ * Success fills the 43 bytes at saved; what stood there does not matter.
  * Refuses, in this order: 1, 2, 13.
  */
 uint32_t gauge_open(const uint8_t *configuration, size_t configuration_length, uint8_t *saved, size_t saved_length);
@@ -141,7 +152,7 @@ uint32_t gauge_open(const uint8_t *configuration, size_t configuration_length, u
 /*
  * Brings bytes that an older version of the gauge saved over to GAUGE_FORM: charge, capacity, run, MODE, AR and all else as they
  * were. For a handset whose firmware is updated while a gauge is in its memory: every other call answers 14 to an older form.
- * Bytes that already are of GAUGE_FORM come out the same. old is only read; success fills the 41 bytes at saved.
+ * Bytes that already are of GAUGE_FORM come out the same. old is only read; success fills the 43 bytes at saved.
  * Refuses, in this order: 14 (of the bytes at old), 13.
  */
 uint32_t gauge_convert(const uint8_t *old, size_t old_length, uint8_t *saved, size_t saved_length);
@@ -187,6 +198,17 @@ uint32_t gauge_read(const uint8_t *saved, size_t saved_length, uint32_t address,
 uint32_t gauge_preview(const uint8_t *saved, size_t saved_length, uint8_t key, uint8_t *reply, size_t reply_length,
                        uint8_t *command);
 
+/*
+ * The charge of a cell that has rested, by its voltage in mV as it is measured now, without load: goes to *estimate in counts, and how
+ * far it is from the NAC of now, *estimate - NAC, from -65535 to 65535, to *distance. It is *estimate = permille * LMD / 1000 rounded
+ * down, with the permille of a table: 301 entries from 3000 to 4200 in steps of 4, a voltage between two of them taking the lower. The
+ * gauge counts the windows of gauge_rest since the last window whose current counted, since opening or a reset, and asks for 422 of
+ * them. saved is only read: no charge moves and VOLT keeps its value. To set the charge by it, write the estimate to AR and obey WRTNAC.
+ * After a refusal *estimate and *distance keep their values.
+ * Refuses, in this order: 14, 15, 16.
+ */
+uint32_t gauge_estimate(const uint8_t *saved, size_t saved_length, int32_t voltage, uint16_t *estimate, int32_t *distance);
+
 /* The bytes of a gauge saved in a form, which gauge_convert asks of old_length; 0 for a number that is no form of this version. */
 static inline size_t gauge_form_length(uint8_t form)
 {
@@ -194,6 +216,8 @@ static inline size_t gauge_form_length(uint8_t form)
     case 1:
     case 2:
         return 41;
+    case 3:
+        return 43;
     default:
         return 0;
     }
@@ -258,6 +282,10 @@ static inline const char *gauge_refusal_text(uint32_t number)
         return "reply or save buffer of the wrong length";
     case GAUGE_REFUSED_SAVED:
         return "saved bytes are no gauge";
+    case GAUGE_REFUSED_NOT_RESTED:
+        return "too few rest windows for an estimate";
+    case GAUGE_REFUSED_ESTIMATE_VOLTAGE:
+        return "voltage outside the table";
     default:
         return "no number of this gauge";
     }

@@ -13,6 +13,8 @@ static uint8_t saved[GAUGE_SAVED_LENGTH];
 static uint8_t converted[GAUGE_SAVED_LENGTH];
 static uint8_t reply[GAUGE_REGISTERS];
 static uint8_t command;
+static uint16_t estimate;
+static int32_t distance;
 
 /* A gauge on its way from full, so that a window takes the discharge path and TTE, CAC and FCAC are divided out. */
 static uint32_t start(void)
@@ -103,6 +105,8 @@ static bool repeat(const char *kind, unsigned long times, uint32_t *numbers)
     else if (strcmp(kind, "convert-1") == 0)
         REPEAT(gauge_convert(kept_form_1, sizeof kept_form_1, converted, sizeof converted));
     else if (strcmp(kind, "convert-2") == 0)
+        REPEAT(gauge_convert(kept_form_2, sizeof kept_form_2, converted, sizeof converted));
+    else if (strcmp(kind, "convert-3") == 0)
         REPEAT(gauge_convert(saved, sizeof saved, converted, sizeof converted));
     else if (strcmp(kind, "window") == 0)
         REPEAT(gauge_window(saved, sizeof saved, -3000, 3600, 1192));
@@ -115,6 +119,9 @@ static bool repeat(const char *kind, unsigned long times, uint32_t *numbers)
     else if (strcmp(kind, "preview") == 0) {
         *numbers |= choose_wrtnac();
         REPEAT(gauge_preview(saved, sizeof saved, GAUGE_KEY_WRTNAC, reply, sizeof reply, &command));
+    } else if (strcmp(kind, "estimate") == 0) {
+        *numbers |= gauge_rest(saved, sizeof saved, GAUGE_ESTIMATE_REST_MIN, 1192);
+        REPEAT(gauge_estimate(saved, sizeof saved, 3700, &estimate, &distance));
     } else if (strcmp(kind, "rest-1") == 0)
         REPEAT(gauge_rest(saved, sizeof saved, 1, 1192));
     else if (strcmp(kind, "rest-100") == 0)

@@ -1,4 +1,4 @@
-/* The seven calls with nothing in them: what a run with these takes is the caller's loop and arguments, and the two instructions of
+/* The eight calls with nothing in them: what a run with these takes is the caller's loop and arguments, and the two instructions of
  * each function here. */
 #include "gauge.h"
 
@@ -42,5 +42,11 @@ uint32_t gauge_read(const uint8_t *saved, size_t saved_length, uint32_t address,
 uint32_t gauge_preview(const uint8_t *saved, size_t saved_length, uint8_t key, uint8_t *reply, size_t reply_length, uint8_t *command)
 {
     (void)saved, (void)saved_length, (void)key, (void)reply, (void)reply_length, (void)command;
+    return GAUGE_OK;
+}
+
+uint32_t gauge_estimate(const uint8_t *saved, size_t saved_length, int32_t voltage, uint16_t *estimate, int32_t *distance)
+{
+    (void)saved, (void)saved_length, (void)voltage, (void)estimate, (void)distance;
     return GAUGE_OK;
 }

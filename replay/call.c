@@ -17,6 +17,7 @@ const struct call_form call_forms[CALL_KINDS] = {
     [CALL_WRITE] = {"write", 2, {EITHER("ADDRESS", UINT32_MAX, true), EITHER("BYTE", UINT8_MAX, true)}},
     [CALL_READ] = {"read", 2, {EITHER("ADDRESS", UINT32_MAX, true), EITHER("COUNT", UINT32_MAX, false)}},
     [CALL_PREVIEW] = {"preview", 1, {EITHER("KEY", UINT8_MAX, true)}},
+    [CALL_ESTIMATE] = {"estimate", 1, {SIGNED("VOLTAGE")}},
     [CALL_NAC] = {"nac", 1, {UNSIGNED("N", UINT16_MAX)}, .is_command = true},
     [CALL_LMD] = {"lmd", 1, {UNSIGNED("N", UINT16_MAX)}, .is_command = true},
     [CALL_DONE] = {.word = "done", .is_command = true},

@@ -14,6 +14,7 @@ enum call_kind {
     CALL_WRITE,
     CALL_READ,
     CALL_PREVIEW,
+    CALL_ESTIMATE,
     CALL_NAC,
     CALL_LMD,
     CALL_DONE,

@@ -94,6 +94,8 @@ static uint32_t make(const struct call *call, uint8_t *saved, struct reply *repl
                           sizeof reply->registers, 0);
     case CALL_PREVIEW:
         return preview_key(saved, (uint8_t)numbers[0], reply);
+    case CALL_ESTIMATE:
+        return gauge_estimate(saved, GAUGE_SAVED_LENGTH, (int32_t)numbers[0], &reply->estimate, &reply->distance);
     default:
         if (call->previewed)
             return preview_command(saved, &commands[call->kind], (unsigned)numbers[0], reply);

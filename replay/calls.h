@@ -10,13 +10,15 @@ struct run {
     uint64_t windows; /* the time passed */
 };
 
-/* What an accepted read or preview hands out. */
+/* What an accepted read, preview or estimate hands out. */
 struct reply {
     uint8_t registers[GAUGE_REGISTERS]; /* those that a read asked for, from the first place on; of a preview all, as they would stand */
     uint8_t command;                    /* of a preview: the command that would be obeyed */
+    uint16_t estimate;                  /* counts */
+    int32_t distance;                   /* of the estimate from NAC, counts */
 };
 
-/* Makes the call and answers its number, 0 or a refusal's; a refused call changes nothing, and a read or a preview only the reply. */
+/* Makes the call and answers its number, 0 or a refusal's. A refused call changes nothing; a read, a preview or an estimate only the reply. */
 uint32_t call_make(const struct call *call, struct run *run, struct reply *reply);
 
 #endif

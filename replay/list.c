@@ -148,8 +148,8 @@ static bool read_call(struct list *list, struct span line, struct call *call, st
     }
     call->kind = kind_of(first);
     if (call->kind == CALL_KINDS) {
-        bad_line(bad, call->place, "unknown word '%s'; expected open, load, window, rest, write, read, preview, nac, lmd, "
-                 "done, reset, partial or three numbers", word_shown(first, shown));
+        bad_line(bad, call->place, "unknown word '%s'; expected open, load, window, rest, write, read, preview, estimate, nac, "
+                 "lmd, done, reset, partial or three numbers", word_shown(first, shown));
         return false;
     }
     if (call->kind == CALL_PREVIEW)

@@ -134,6 +134,13 @@ static void print_preview(const struct table *table, const struct reply *reply)
     printf(" by %s\n", gauge_command_name(reply->command));
 }
 
+/* The estimate stands under NAC, from which its distance is. */
+static void print_estimate(const struct table *table, const struct reply *reply)
+{
+    printf("#%*s %*u distance %" PRId32 "\n", table->time_width + NUMBER_WIDTH, "estimate", column_width(&columns[0]),
+           (unsigned)reply->estimate, reply->distance);
+}
+
 void table_begin(struct table *table, bool all, uint64_t most_windows)
 {
     char longest[TIME_ROOM];
@@ -151,7 +158,7 @@ static void count_call(struct table *table, uint32_t number, struct place place)
     table->calls++;
     if (number == GAUGE_OK)
         return;
-    assert(number <= GAUGE_REFUSED_SAVED);
+    assert(number <= LAST_REFUSAL);
     table->refused++;
     if (table->refusals[number].count++ == 0)
         table->refusals[number].first = place;
@@ -162,6 +169,8 @@ static void print_reply(const struct table *table, const struct call *call, cons
 {
     if (call->kind == CALL_READ)
         print_read((uint32_t)call->numbers[0], (uint32_t)call->numbers[1], reply->registers);
+    if (call->kind == CALL_ESTIMATE)
+        print_estimate(table, reply);
     if (call->previewed)
         print_preview(table, reply);
 }
@@ -192,7 +201,7 @@ void table_end(const struct table *table)
         return;
     }
     printf("%zu refused\n", table->refused);
-    for (uint32_t number = 0; number <= GAUGE_REFUSED_SAVED; number++) {
+    for (uint32_t number = 0; number <= LAST_REFUSAL; number++) {
         const struct refusals *refusals = &table->refusals[number];
         if (refusals->count > 0)
             printf("# refused with %u (%s): %zu, first %s:%zu\n", (unsigned)number, gauge_refusal_text(number),

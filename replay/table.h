@@ -4,6 +4,8 @@
 
 #include "calls.h"
 
+enum { LAST_REFUSAL = GAUGE_REFUSED_ESTIMATE_VOLTAGE };
+
 struct refusals {
     size_t count;
     struct place first;
@@ -14,13 +16,13 @@ struct table {
     int time_width;
     size_t calls;
     size_t refused;
-    struct refusals refusals[GAUGE_REFUSED_SAVED + 1]; /* by number */
+    struct refusals refusals[LAST_REFUSAL + 1]; /* by number */
 };
 
 /* Prints the heading. most_windows: the run takes no more time than these; the first column is as wide as that needs. */
 void table_begin(struct table *table, bool all, uint64_t most_windows);
 
-/* Prints the row of a call that answered number and left the run as it stands, and below it what an accepted read or preview handed out. */
+/* Prints the row of a call that answered number and left the run as it stands, and below it what an accepted call put into the reply. */
 void table_row(struct table *table, const struct call *call, uint32_t number, const struct run *run, const struct reply *reply);
 
 /* Prints the summary. */

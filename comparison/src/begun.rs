@@ -4,6 +4,7 @@ use crate::both::Both;
 use crate::conversions;
 use crate::counts::Counts;
 use crate::difference::{same, Difference};
+use crate::rest_counts;
 use crate::table::{Kind, Part};
 use crate::trial::Start;
 use reference::configuration::Configuration;
@@ -19,6 +20,8 @@ pub struct Begun {
     pub both: Both,
     /// None where the bytes hold no gauge.
     pub history: Option<History>,
+    /// Whether the gauge came from an older form.
+    pub from_older: bool,
     /// Whether a run is under way that was converted from an older form.
     pub converted_run: bool,
 }
@@ -32,12 +35,16 @@ impl Begun {
                 counts.add_number(part, Kind::Open, number);
                 same("number of opening", number, 0)?;
                 let history = Configuration::new(configuration).map(History::opened).expect("ILMD above 0");
-                Ok(Begun { both, history: Some(history), converted_run: false })
+                Ok(Begun { both, history: Some(history), from_older: false, converted_run: false })
             }
             Start::Saved { bytes, accepted } => {
                 let held = saved::load(bytes);
                 same_if_known("saved bytes accepted", held.is_ok(), *accepted)?;
-                Ok(Begun { both: Both::new(bytes), history: history_of(held), converted_run: false })
+                let history = history_of(held);
+                if let Some(history) = &history {
+                    rest_counts::handed_in(counts, part, history.rest_count);
+                }
+                Ok(Begun { both: Both::new(bytes), history, from_older: false, converted_run: false })
             }
             Start::Converted { old, lent, readable } => {
                 let mut both = Both::new(lent);
@@ -52,8 +59,9 @@ impl Begun {
     /// The history begins at what the old bytes hold. Where they are refused, the lent bytes are left, with a gauge or not.
     fn converted(both: Both, old: &[u8], lent: &[u8], number: u32) -> Begun {
         let history = history_of(if number == 0 { forms::load(old) } else { saved::load(lent) });
-        let converted_run = number == 0 && is_older(old) && has_run(&history);
-        Begun { both, history, converted_run }
+        let from_older = number == 0 && is_older(old);
+        let converted_run = from_older && has_run(&history);
+        Begun { both, history, from_older, converted_run }
     }
 }
 

@@ -63,6 +63,7 @@ impl Both {
             }
             Call::Read { address, count, reply_length, place } => self.read(address, count, reply_length, place)?,
             Call::Preview { key, reply_length } => self.preview(key, reply_length)?,
+            Call::Estimate { voltage } => self.estimate(voltage)?,
         };
         self.same_saved(number, &before[..length])?;
         Ok(number)
@@ -105,7 +106,8 @@ impl Both {
         }
     }
 
-    /// Compares the shipped gauge with the history: h with H, LMD with L, VDQ and DCR with the run, and AR and the command bits.
+    /// Compares the shipped gauge with the history: h with H, LMD with L, VDQ and DCR with the run, and AR, the command bits and the
+    /// count of rest windows.
     pub fn same_history(&self, history: &History) -> Result<(), Difference> {
         let saved = self.shipped.bytes();
         let pair = |at: usize| i32::from(u16::from_le_bytes([saved[at], saved[at + 1]]));
@@ -115,6 +117,7 @@ impl Both {
         same("VDQ and the history's run", saved[40] & 0x04 != 0, history.run.is_some())?;
         same("DCR and the history's R", grains(19), history.r())?;
         same("AR and the history's AR", pair(37), history.ar)?;
-        same("command bits of MODE and of the history's MODE", saved[39] & 0x3B, history.mode & 0x3B)
+        same("command bits of MODE and of the history's MODE", saved[39] & 0x3B, history.mode & 0x3B)?;
+        same("count of rest windows and the history's", pair(41), history.rest_count)
     }
 }

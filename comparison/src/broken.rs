@@ -7,13 +7,14 @@ use reference::leak::GREATEST_DRAIN;
 use reference::saved;
 
 /// Numbers that are no form.
-const NO_FORMS: [(u8, Event); 6] = [
+const NO_FORMS: [(u8, Event); 7] = [
     (0, Event::BrokenFormZero),
     (saved::FORM + 1, Event::BrokenFormNext),
     (255, Event::BrokenFormGreatest),
     (saved::FORM + 2, Event::BrokenFormOther),
     (0x81, Event::BrokenFormOther),
     (0x82, Event::BrokenFormOther),
+    (0x83, Event::BrokenFormOther),
 ];
 
 /// The least SI whose sixteenths two bytes do not hold: 4,096 × 16 would wrap to 0.

@@ -5,15 +5,23 @@ use crate::table::{Event, Kind, Part, EVENTS, KINDS, NUMBERS, NUMBERS_OF_A_CALL,
 /// A count for each part.
 type Row = [u64; PARTS.len()];
 
+/// The entries of the estimate's table: 3,000 to 4,200 mV in steps of 4 (paper 02, A4).
+const ENTRIES: usize = 301;
+const ENTRIES_NAME: &str = "entries of the estimate's table met, with LMD of 1,000 or more";
+
+/// The parts in which an estimate has to meet every one of them.
+const PARTS_OF_ENTRIES: &[Part] = &[Part::Lists, Part::Gauges];
+
 pub struct Counts {
     events: Vec<Row>,
     numbers: [[Row; NUMBERS_OF_A_CALL]; KINDS],
+    entries: Vec<Row>,
 }
 
 impl Counts {
     pub fn new() -> Counts {
         let none = [0; PARTS.len()];
-        Counts { events: vec![none; EVENTS.len()], numbers: [[none; NUMBERS_OF_A_CALL]; KINDS] }
+        Counts { events: vec![none; EVENTS.len()], numbers: [[none; NUMBERS_OF_A_CALL]; KINDS], entries: vec![none; ENTRIES] }
     }
 
     pub fn add(&mut self, part: Part, event: Event) {
@@ -31,37 +39,49 @@ impl Counts {
         self.numbers[kind as usize][number][part as usize] += 1;
     }
 
+    /// Counts an estimate by its entry of the table.
+    pub fn add_entry(&mut self, part: Part, entry: usize) {
+        self.entries[entry][part as usize] += 1;
+    }
+
+    /// How many entries of the table were met in each part.
+    fn entries_met(&self) -> Row {
+        std::array::from_fn(|part| self.entries.iter().filter(|entry| entry[part] > 0).count() as u64)
+    }
+
     /// Prints the table and tells how many events and numbers never occurred where they have to.
     pub fn print(&self, texts_compared: bool) -> usize {
         let names: Vec<String> = PARTS.iter().map(|(_, name)| format!(" {name:>12}")).collect();
         println!("{:62}{}", "", names.concat());
         let mut missing = 0;
         for &(event, name, parts) in EVENTS {
-            missing += print_row(name, &self.events[event as usize], parts, texts_compared);
+            missing += print_row(name, &self.events[event as usize], 1, parts, texts_compared);
         }
+        missing += print_row(ENTRIES_NAME, &self.entries_met(), ENTRIES as u64, PARTS_OF_ENTRIES, texts_compared);
         for &(kind, call, numbers, parts) in NUMBERS {
             for &number in numbers {
                 let name = match number {
                     0 => format!("{call} done"),
                     _ => format!("{call} refused {number}"),
                 };
-                missing += print_row(&name, &self.numbers[kind as usize][number as usize], parts, texts_compared);
+                missing += print_row(&name, &self.numbers[kind as usize][number as usize], 1, parts, texts_compared);
             }
         }
         missing
     }
 }
 
-/// Prints one row; 1 if the event never occurred in a part in which it has to.
-fn print_row(name: &str, counts: &Row, parts: &[Part], texts_compared: bool) -> usize {
+/// Prints one row; 1 if the event did not occur as often as it has to in a part in which it has to.
+fn print_row(name: &str, counts: &Row, least: u64, parts: &[Part], texts_compared: bool) -> usize {
     print!("{name:62}");
     let mut missing = false;
     for (part, _) in PARTS {
         let count = counts[part as usize];
         let needed = parts.contains(&part) && (part != Part::Texts || texts_compared);
-        missing |= needed && count == 0;
+        missing |= needed && count < least;
         let cell = match (count, needed) {
             (0, true) => String::from("NEVER"),
+            (_, true) if count < least => format!("ONLY {count}"),
             (0, false) => String::from("-"),
             _ => count.to_string(),
         };

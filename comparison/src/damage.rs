@@ -7,17 +7,19 @@ use crate::counts::Counts;
 use crate::difference::{hexadecimal, Difference};
 use crate::fields::{self, Fields};
 use crate::gauges;
-use crate::older;
+use crate::older::{self, FORMER_LENGTH};
 use crate::random::Random;
+use crate::reshaped;
 use crate::table::{Event, Kind, Part};
 use crate::trial::{Start, Trial};
 use crate::values;
 use reference::configuration::Configuration;
 use reference::history::Call;
+use reference::refusal::REPLY;
 use reference::{forms, saved};
 
-/// Window, rest, write, read and preview.
-const CALLS_ON_A_GAUGE: usize = 5;
+/// Window, rest, write, read, preview and estimate.
+const CALLS_ON_A_GAUGE: usize = 6;
 
 /// What was done to a save, its bytes, and whether loading reads them, where that is known.
 struct Save {
@@ -34,7 +36,8 @@ pub fn trials(random: &mut Random, from_lists: &[Vec<u8>], counts: &mut Counts) 
     };
     let configuration = newest.meaning();
     let (part, save) = if random.one_in(2) {
-        (Part::Older, of_older_form(random, older::form_1(&newest)))
+        let old = older::any(random, &newest);
+        (Part::Older, of_older_form(random, old))
     } else {
         (Part::Damaged, damaged(random, newest))
     };
@@ -46,10 +49,17 @@ pub fn trials(random: &mut Random, from_lists: &[Vec<u8>], counts: &mut Counts) 
 
 fn count(counts: &mut Counts, part: Part, save: &Save) {
     counts.add(part, save.event);
-    if save.event != Event::OlderWhole {
-        let refused = forms::load(&save.bytes).is_err();
-        counts.add(part, if refused { Event::DamagedRefused } else { Event::DamagedAccepted });
+    if matches!(save.event, Event::OlderWhole1 | Event::OlderWhole2) {
+        return;
     }
+    reshaped::count(counts, part, &save.bytes);
+    let event = match (forms::load(&save.bytes), save.bytes.first()) {
+        (Err(_), _) => Event::DamagedRefused,
+        (Ok(_), Some(1)) => Event::DamagedForm1,
+        (Ok(_), Some(2)) => Event::DamagedForm2,
+        (Ok(_), _) => Event::DamagedForm3,
+    };
+    counts.add(part, event);
 }
 
 /// Each call on a gauge once, whatever else was drawn before it. They take the newest form alone.
@@ -85,7 +95,8 @@ fn bytes(random: &mut Random, limit: u64) -> Vec<u8> {
 /// A save of an older form, whole or damaged.
 fn of_older_form(random: &mut Random, fields: Fields) -> Save {
     if random.one_in(6) {
-        Save { event: Event::OlderWhole, bytes: fields.bytes(), readable: Some(true) }
+        let event = if fields.form == 1 { Event::OlderWhole1 } else { Event::OlderWhole2 };
+        Save { event, bytes: fields.bytes(), readable: Some(true) }
     } else {
         damaged(random, fields)
     }
@@ -94,7 +105,7 @@ fn of_older_form(random: &mut Random, fields: Fields) -> Save {
 fn damaged(random: &mut Random, mut fields: Fields) -> Save {
     let mut bytes = fields.bytes();
     let at = random.below(bytes.len() as u64) as usize;
-    let (event, readable) = match random.below(9) {
+    let (event, readable) = match random.below(10) {
         0 => {
             bytes[at] ^= 1 << random.below(8);
             (Event::BitFlipped, None)
@@ -109,16 +120,12 @@ fn damaged(random: &mut Random, mut fields: Fields) -> Save {
             bytes[from..].iter_mut().for_each(|byte| *byte = random.byte());
             (Event::RandomBytes, None)
         }
-        3 => {
-            // 0 to 64 but for 41.
-            let length = (random.range(42, 105) % 65) as usize;
-            bytes.resize(length, random.pick(&[0, 1, 0xFF]));
-            (Event::WrongLength, Some(false))
-        }
-        4 => {
-            let others: Vec<u8> = older::FORMS.into_iter().filter(|&form| form != fields.form).collect();
-            bytes[0] = random.pick(&others);
-            (Event::FormExchanged, None)
+        3 => reshaped::of_another_length(random, &mut bytes),
+        4 => reshaped::of_another_form(random, &mut bytes),
+        5 if fields.rest_count.is_some() => {
+            fields.rest_count = Some(values::rest_count(random));
+            bytes = fields.bytes();
+            (Event::CountReplaced, Some(true))
         }
         _ => {
             let event = broken(random, &mut fields);
@@ -138,11 +145,16 @@ pub fn opening(random: &mut Random, counts: &mut Counts) -> Result<(), (String, 
     if random.one_in(3) {
         configuration.resize(random.below(21) as usize, random.pick(&[0, 1]));
     }
-    let length = if random.one_in(3) { random.below(65) as usize } else { 41 };
+    let length = match random.below(6) {
+        0 => random.pick(&[FORMER_LENGTH, saved::LENGTH - 1, saved::LENGTH + 1]),
+        1 => random.below(65) as usize,
+        _ => saved::LENGTH,
+    };
     let content: Vec<u8> = (0..length).map(|_| random.byte()).collect();
     let mut both = Both::new(&content);
     let called = format!("  open    {}\n  saved   {}\n", hexadecimal(&configuration), hexadecimal(&content));
     let number = both.open(&configuration).map_err(|difference| (called.clone(), difference))?;
     counts.add_number(Part::Damaged, Kind::Open, number);
+    counts.add_if(Part::Damaged, Event::OpenIntoFormer, number == REPLY && length == FORMER_LENGTH);
     both.same_registers().map_err(|difference| (called, difference))
 }

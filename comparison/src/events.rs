@@ -1,8 +1,10 @@
 //! Which events a call is. This only counts: no comparison rests on it.
 
 use crate::counts::Counts;
+use crate::estimates;
 use crate::fields;
 use crate::previews;
+use crate::rest_counts;
 use crate::rests;
 use crate::standby;
 use crate::table::{Event, Kind, Part};
@@ -21,6 +23,7 @@ pub struct Standing {
     pub mode: u8,
     pub ar: i32,
     pub si_sixteenths: i32,
+    pub rest_count: i32,
 }
 
 impl Standing {
@@ -34,6 +37,7 @@ impl Standing {
             mode: history.mode,
             ar: history.ar,
             si_sixteenths: i32::from(fields::si(bytes)),
+            rest_count: history.rest_count,
         }
     }
 }
@@ -45,6 +49,7 @@ pub fn kind(call: &Call) -> Kind {
         Call::Write { .. } => Kind::Write,
         Call::Read { .. } => Kind::Read,
         Call::Preview { .. } => Kind::Preview,
+        Call::Estimate { .. } => Kind::Estimate,
     }
 }
 
@@ -54,8 +59,12 @@ pub fn count(counts: &mut Counts, part: Part, before: &Standing, after: &Standin
         Call::Window { current, voltage, temperature } => {
             window(counts, part, before, current, voltage, temperature);
             standby::count(counts, part, before, after, before.configuration.counted(current));
+            rest_counts::window(counts, part, before, current);
         }
-        Call::Rest { windows, temperature } => rests::count(counts, part, before, after, windows, temperature),
+        Call::Rest { windows, temperature } => {
+            rests::count(counts, part, before, after, windows, temperature);
+            rest_counts::rest(counts, part, before, windows);
+        }
         Call::Write { address, value } => write(counts, part, before, address, value),
         Call::Read { address, count, .. } => {
             counts.add_if(part, Event::ReadAll, count == 128);
@@ -63,6 +72,7 @@ pub fn count(counts: &mut Counts, part: Part, before: &Standing, after: &Standin
             counts.add_if(part, Event::ReadHalf, within(address) || within(address + count));
         }
         Call::Preview { key, .. } => previews::count(counts, part, before, key),
+        Call::Estimate { voltage } => estimates::count(counts, part, before, voltage),
     }
 }
 
@@ -178,4 +188,5 @@ fn carried_out(counts: &mut Counts, part: Part, before: &Standing, picked: Comma
     counts.add_if(part, Event::WrtlmdCuts, cuts);
     let resets = matches!(picked, Command::Prst | Command::Frst);
     counts.add_if(part, Event::ResetOfStandby, resets && before.si_sixteenths != 16 * before.configuration.s0());
+    rest_counts::command(counts, part, before, picked);
 }

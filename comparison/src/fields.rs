@@ -10,7 +10,8 @@ use reference::saved;
 pub const CHGS: u8 = 0x80;
 pub const VDQ: u8 = 0x04;
 
-/// The saved gauge field by field, without any condition. SI is the stored number, whose unit is the form's own.
+/// The saved gauge field by field, without any condition. SI is the stored number, whose unit is the form's own. A field that the form
+/// lacks is none.
 #[derive(Clone)]
 pub struct Fields {
     pub form: u8,
@@ -25,10 +26,12 @@ pub struct Fields {
     pub ar: u16,
     pub mode: u8,
     pub flags: u8,
+    pub rest_count: Option<u16>,
 }
 
 impl Fields {
-    /// The 41 bytes in the order of paper 01, "Saved gauge", low byte first. Forms 1 and 2 differ in what SI means alone.
+    /// The 41 bytes in the order of paper 01, "Saved gauge", low byte first, and then what later forms append (paper 02, A4). Forms 1
+    /// and 2 differ in what SI means alone.
     pub fn bytes(&self) -> Vec<u8> {
         let mut bytes = vec![self.form];
         bytes.extend(self.configuration);
@@ -41,10 +44,11 @@ impl Fields {
         bytes.extend(self.temp.to_le_bytes());
         bytes.extend(self.ar.to_le_bytes());
         bytes.extend([self.mode, self.flags]);
+        bytes.extend(self.rest_count.iter().flat_map(|count| count.to_le_bytes()));
         bytes
     }
 
-    /// The fields of 41 bytes, or of more that begin with them.
+    /// The fields of 41 bytes, or of more, whatever form their number says.
     pub fn of(bytes: &[u8]) -> Fields {
         let pair = |at: usize| u16::from_le_bytes([bytes[at], bytes[at + 1]]);
         let eight = |at: usize| u64::from_le_bytes(bytes[at..at + 8].try_into().expect("eight bytes"));
@@ -61,6 +65,7 @@ impl Fields {
             ar: pair(37),
             mode: bytes[39],
             flags: bytes[40],
+            rest_count: bytes.get(41..43).map(|_| pair(41)),
         }
     }
 
@@ -127,6 +132,7 @@ pub fn valid(random: &mut Random) -> Fields {
         ar: random.amount(65_535) as u16,
         mode: random.byte(),
         flags,
+        rest_count: Some(values::rest_count(random)),
     };
     fields.si = standby(random, fields.greatest_si());
     charge(random, &mut fields);

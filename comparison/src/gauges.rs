@@ -1,11 +1,13 @@
 //! Trials on gauges handed in, many of them aimed at the grain on which a rule turns.
 
+use crate::aimed_estimates;
 use crate::aimed_rests;
 use crate::fields::{self, Fields};
 use crate::host;
 use crate::lists;
 use crate::older;
 use crate::random::Random;
+use crate::step::Step;
 use crate::trial::{Start, Trial};
 use crate::values;
 use reference::configuration::Configuration;
@@ -19,29 +21,39 @@ const GRAINS_TAUGHT: i64 = 15 * GRAINS_PER_COUNT / 16;
 /// One trial in so many is a whole list, which goes on from a gauge in an older form.
 const LIST_EVERY: u64 = 400;
 
+/// One trial in so many is a sweep over all entries of the estimate's table.
+const SWEEP_EVERY: u64 = 4_000;
+
 pub fn trial(random: &mut Random) -> Trial {
     if random.one_in(LIST_EVERY) {
         return lists::updated(Random::new(random.next()));
     }
+    if random.one_in(SWEEP_EVERY) {
+        return aimed_estimates::sweep(random);
+    }
     let mut fields = fields::valid(random);
-    let mut steps = vec![first_call(random, &mut fields).into()];
+    let mut steps: Vec<Step> = first_calls(random, &mut fields).into_iter().map(Step::from).collect();
     for _ in 0..random.below(4) {
         steps.push(any_call(random, &fields.meaning()).into());
     }
     Trial { start: start(random, &fields), steps }
 }
 
-/// The gauge as saved bytes, or converted, from an older form or from the newest.
+/// The gauge as saved bytes, or converted, from an older form, which loses what that form lacks, or from the newest.
 fn start(random: &mut Random, fields: &Fields) -> Start {
     match random.below(6) {
         0 => Start::converted(fields.bytes()),
-        1 | 2 => Start::converted(older::form_1(fields).bytes()),
+        1 => Start::converted(older::form_1(fields).bytes()),
+        2 => Start::converted(older::form_2(fields).bytes()),
         _ => Start::Saved { bytes: fields.bytes(), accepted: Some(true) },
     }
 }
 
-fn first_call(random: &mut Random, fields: &mut Fields) -> Call {
-    match random.below(10) {
+fn first_calls(random: &mut Random, fields: &mut Fields) -> Vec<Call> {
+    if random.one_in(6) {
+        return aimed_estimates::calls(random, fields);
+    }
+    let call = match random.below(10) {
         0 => full(random, fields),
         1 => empty(random, fields),
         2 => passes(random, fields),
@@ -50,17 +62,19 @@ fn first_call(random: &mut Random, fields: &mut Fields) -> Call {
         5 => settles(random, fields),
         6 | 7 => command(random, fields),
         _ => any_call(random, &fields.meaning()),
-    }
+    };
+    vec![call]
 }
 
 /// Any call on a gauge, in range or not.
 pub fn any_call(random: &mut Random, configuration: &Configuration) -> Call {
-    match random.below(9) {
+    match random.below(10) {
         0 => host::any_read(random),
         1 => host::any_write(random),
         2 => host::out_of_range(random, configuration),
         3 => host::any_preview(random),
-        4 => {
+        4 => host::any_estimate(random),
+        5 => {
             let windows = match random.below(60) {
                 0 => 16_875 - random.below(2) as u32,
                 1 => random.range(1, 2_000) as u32,
@@ -158,7 +172,7 @@ fn settles(random: &mut Random, fields: &mut Fields) -> Call {
 }
 
 /// A key at CTRL, written or previewed, with an AR near LMD or NAC.
-fn command(random: &mut Random, fields: &mut Fields) -> Call {
+pub fn command(random: &mut Random, fields: &mut Fields) -> Call {
     let nac = (fields.h as i64 / GRAINS_PER_COUNT) as u16;
     let near = random.pick(&[fields.lmd, nac, 0, 1, 65_535]);
     fields.ar = near.wrapping_add(random.pick(&[0, 1, 65_535]));

@@ -1,4 +1,4 @@
-//! What the host does: writes, commands, previews and reads; and calls that are refused.
+//! What the host does: writes, commands, previews, reads and estimates; and calls that are refused.
 
 use crate::random::Random;
 use crate::values;
@@ -74,6 +74,11 @@ pub fn any_preview(random: &mut Random) -> Call {
         _ => 0xA9,
     };
     Call::Preview { key, reply_length: values::preview_length(random) }
+}
+
+/// An estimate, whether the cell has rested or not.
+pub fn any_estimate(random: &mut Random) -> Call {
+    Call::Estimate { voltage: values::estimate_voltage(random) }
 }
 
 /// A read within the map and the reply, or one beyond either, up to the greatest numbers.

@@ -1,5 +1,6 @@
 //! Lists of calls, put together from scenes.
 
+use crate::estimate_scenes;
 use crate::host;
 use crate::random::Random;
 use crate::rest_scenes;
@@ -10,8 +11,15 @@ use crate::writer::Writer;
 /// One list in so many has a long run, which alone is some 1,650 windows.
 const LONG_RUN_EVERY: u64 = 100;
 
+/// One list in so many has a rest of days, which alone is 65,535 windows, and one has the whole table of an estimate, 301 calls.
+const REST_OF_DAYS_EVERY: u64 = 400;
+const WHOLE_TABLE_EVERY: u64 = 400;
+
 /// One scene in so many is a steady light load, which is some dozens of windows.
 const STANDBY_EVERY: u64 = 80;
+
+/// One scene in so many is a rest that is long enough for an estimate, which is some hundreds of windows.
+const RESTED_EVERY: u64 = 100;
 
 /// One scene in so many is an update of the firmware.
 const UPDATE_EVERY: u64 = 40;
@@ -34,6 +42,12 @@ fn written(mut writer: Writer) -> Trial {
             scenes::long_run(&mut writer);
         }
     }
+    if writer.random.one_in(REST_OF_DAYS_EVERY) {
+        estimate_scenes::to_the_stop(&mut writer);
+    }
+    if writer.random.one_in(WHOLE_TABLE_EVERY) {
+        estimate_scenes::whole_table(&mut writer);
+    }
     let scenes = writer.random.range(3, 30);
     for _ in 0..scenes {
         scene(&mut writer);
@@ -48,7 +62,10 @@ fn scene(writer: &mut Writer) {
     if writer.random.one_in(UPDATE_EVERY) {
         return writer.update();
     }
-    match writer.random.below(23) {
+    if writer.random.one_in(RESTED_EVERY) {
+        return estimate_scenes::rested(writer);
+    }
+    match writer.random.below(24) {
         0..=2 => (0..writer.random.amount(12)).for_each(|_| scenes::any_window(writer)),
         3 | 4 => scenes::charge_up(writer),
         5 | 6 => scenes::taper(writer),
@@ -72,6 +89,10 @@ fn scene(writer: &mut Writer) {
             writer.call(call);
         }
         21 => rest_scenes::aimed(writer),
+        22 => {
+            let call = host::any_estimate(&mut writer.random);
+            writer.call(call);
+        }
         _ => {
             let call = host::out_of_range(&mut writer.random, &writer.configuration);
             writer.call(call);

@@ -2,6 +2,7 @@
 //!
 //! Ends with status 0 only if there was no difference and every event of the table occurred.
 
+mod aimed_estimates;
 mod aimed_rests;
 mod begun;
 mod both;
@@ -10,10 +11,13 @@ mod conversions;
 mod counts;
 mod damage;
 mod difference;
+mod estimate_scenes;
+mod estimates;
 mod events;
 mod fields;
 mod gauges;
 mod host;
+mod lent_number;
 mod lists;
 mod look_ahead;
 mod older;
@@ -23,8 +27,11 @@ mod previews;
 mod program;
 mod random;
 mod report;
+mod reshaped;
+mod rest_counts;
 mod rest_scenes;
 mod rest_steps;
+mod rested_cell;
 mod rests;
 mod running;
 mod scenes;
@@ -33,6 +40,7 @@ mod shrink;
 mod simplest;
 mod standby;
 mod step;
+mod sweep;
 mod table;
 mod texts;
 mod trial;

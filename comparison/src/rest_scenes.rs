@@ -2,7 +2,6 @@
 
 use crate::values;
 use crate::writer::Writer;
-use reference::history::Call;
 use reference::leak::w;
 use reference::refusal::TEMPERATURE_MAX;
 
@@ -19,7 +18,7 @@ pub fn rest(writer: &mut Writer) {
         }
         _ => writer.random.range(1, 20),
     };
-    rest_of(writer, windows, temperature);
+    writer.rest(windows, temperature);
 }
 
 /// A scene that brings a rest to what loses counts.
@@ -39,14 +38,14 @@ fn great_leak(writer: &mut Writer) {
     writer.command(Some(capacity), full, 0xA9);
     let temperature = writer.random.range(1_332, i64::from(TEMPERATURE_MAX)) as i32;
     let windows = if writer.random.one_in(20) { writer.random.range(1_000, 2_500) } else { writer.random.range(2, 30) };
-    rest_of(writer, windows, temperature);
+    writer.rest(windows, temperature);
 }
 
 /// One count, which the first window of the rest leaves below; the others have no leak.
 fn last_count(writer: &mut Writer) {
     writer.command(Some(1), 0x20, 0xA9);
     let (windows, temperature) = (writer.random.range(1, 20), writer.temperature());
-    rest_of(writer, windows, temperature);
+    writer.rest(windows, temperature);
 }
 
 /// Some counts and few grains more, and a rest that ends beside the window which takes the last of these grains.
@@ -58,14 +57,10 @@ fn few_grains(writer: &mut Writer) {
     let (current, temperature) = (writer.random.pick(&[704, 10_547, 10_547]), writer.temperature());
     writer.window(current, 3_700, temperature);
     let windows = beside_a_step(writer, temperature, 600);
-    rest_of(writer, windows, temperature);
+    writer.rest(windows, temperature);
 }
 
 fn beside_a_step(writer: &mut Writer, temperature: i32, at_most: i64) -> i64 {
     let rate = writer.configuration.sd() * w(temperature);
     values::rest_length(&mut writer.random, writer.history.h(), rate, at_most)
-}
-
-fn rest_of(writer: &mut Writer, windows: i64, temperature: i32) {
-    writer.call(Call::Rest { windows: windows as u32, temperature });
 }

@@ -5,10 +5,12 @@ use crate::both::Both;
 use crate::conversions;
 use crate::counts::Counts;
 use crate::difference::{same, same_bytes, Difference};
+use crate::estimates;
 use crate::events::{self, Standing};
 use crate::older;
 use crate::one_by_one;
 use crate::previews;
+use crate::rest_counts;
 use crate::rests;
 use crate::step::Step;
 use crate::table::{Event, Part};
@@ -48,7 +50,7 @@ impl<'a> Running<'a> {
     fn call(&mut self, call: &Call) -> Result<(), Difference> {
         let before = self.standing();
         if let Call::Rest { windows, temperature } = *call {
-            self.rest_one_by_one(windows, temperature)?;
+            self.rest_one_by_one(&before, windows, temperature)?;
         }
         let number = self.now.both.call(call)?;
         self.counts.add_number(self.part, events::kind(call), number);
@@ -59,24 +61,35 @@ impl<'a> Running<'a> {
         }
         match (number, before, self.standing()) {
             (0, Some(before), Some(after)) => events::count(self.counts, self.part, &before, &after, call),
-            _ => self.count_refused(call, number),
+            (_, before, _) => self.count_refused(before, call, number),
+        }
+        if let (Call::Estimate { .. }, true) = (call, self.now.from_older) {
+            estimates::from_older(self.counts, self.part, number);
         }
         Ok(())
     }
 
     /// Makes a rest on copies of the shipped gauge, at once and one by one.
-    fn rest_one_by_one(&mut self, windows: u32, temperature: i32) -> Result<(), Difference> {
+    fn rest_one_by_one(&mut self, before: &Option<Standing>, windows: u32, temperature: i32) -> Result<(), Difference> {
         if let Some(number) = one_by_one::compare(&self.now.both.shipped, windows, temperature)? {
             rests::one_by_one(self.counts, self.part, windows, number);
+            if let (0, Some(before)) = (number, before) {
+                rest_counts::one_by_one(self.counts, self.part, before, windows);
+            }
         }
         Ok(())
     }
 
     /// Counts what is told of a refused call beside its number.
-    fn count_refused(&mut self, call: &Call, number: u32) {
+    fn count_refused(&mut self, before: Option<Standing>, call: &Call, number: u32) {
+        if let Some(before) = &before {
+            rest_counts::refused(self.counts, self.part, before, call);
+        }
+        let rest_count = before.map(|before| before.rest_count);
         match *call {
             Call::Preview { reply_length, .. } => previews::refused(self.counts, self.part, reply_length, number),
             Call::Rest { windows, .. } => rests::refused(self.counts, self.part, windows, number),
+            Call::Estimate { voltage } => estimates::refused(self.counts, self.part, rest_count, voltage, number),
             _ => {}
         }
         if number == SAVED {
@@ -103,6 +116,7 @@ impl<'a> Running<'a> {
             same("number of converting a gauge", number, 0)?;
             same_bytes("converted bytes and those before the update", both.shipped.bytes(), &before)?;
             self.now.both = both;
+            self.now.from_older |= is_older(&old);
             self.now.converted_run |= is_older(&old) && has_run(&self.now.history);
         }
         Ok(())

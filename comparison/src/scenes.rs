@@ -4,7 +4,6 @@ use crate::host;
 use crate::rest_scenes;
 use crate::values;
 use crate::writer::Writer;
-use reference::history::Call;
 use reference::refusal::CURRENT_MAX;
 
 /// One window of a run in so many has an update of the firmware before it.
@@ -144,8 +143,7 @@ pub fn exact_run(writer: &mut Writer) {
     let temperature = writer.random.range(1_292, 1_331) as i32;
     writer.command(Some(2), 0x01, 0x56);
     writer.command(None, 0x10, 0xA9);
-    let windows = (2_625 / sd - 2) as u32;
-    writer.call(Call::Rest { windows, temperature });
+    writer.rest(2_625 / sd - 2, temperature);
     for _ in 0..46_079_296 / CURRENT_MAX {
         let voltage = writer.voltage_above_e1();
         writer.window(-CURRENT_MAX, voltage, temperature);

@@ -1,4 +1,6 @@
-//! The seven calls of the shipped library (include/gauge.h).
+//! The eight calls of the shipped library (include/gauge.h).
+
+use crate::lent_number::LentNumber;
 
 const GUARD: usize = 16;
 const GUARD_BYTE: u8 = 0xC3;
@@ -74,6 +76,11 @@ pub fn preview(saved: &Lent, key: u8, reply: &mut Lent, command: &mut Lent) -> u
     let reply = reply.bytes_mut();
     let command = &mut command.bytes_mut()[0];
     unsafe { gauge_preview(saved.as_ptr(), saved.len(), key, reply.as_mut_ptr(), reply.len(), command) }
+}
+
+pub fn estimate(saved: &Lent, voltage: i32, estimate: &mut LentNumber<u16>, distance: &mut LentNumber<i32>) -> u32 {
+    let saved = saved.bytes();
+    unsafe { gauge_estimate(saved.as_ptr(), saved.len(), voltage, estimate.lend(), distance.lend()) }
 }
 
 /// All 128 registers; the number and the reply, whose bytes were 0xFF before the call.

@@ -168,6 +168,7 @@ fn argument(step: &mut Step, field: usize, set: Option<i64>) -> Option<(i64, i64
         (Call::Read { place, .. }, 3) => field!(place, 0),
         (Call::Preview { key, .. }, 0) => field!(key, 0xA9),
         (Call::Preview { reply_length, .. }, 1) => field!(reply_length, 128),
+        (Call::Estimate { voltage }, 0) => field!(voltage, 3_700),
         _ => None,
     }
 }

@@ -62,6 +62,7 @@ fn opened(form: u8) -> Vec<u8> {
     calls::open(&BENCH_PACK, &mut bytes);
     match form {
         1 => older::form_1(&Fields::of(&bytes)).bytes(),
+        2 => older::form_2(&Fields::of(&bytes)).bytes(),
         _ => bytes,
     }
 }

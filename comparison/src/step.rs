@@ -37,5 +37,6 @@ fn call_text(call: &Call) -> String {
             format!("read    address {address:#04X}  count {count}  reply {reply_length} bytes  place {place}")
         }
         Call::Preview { key, reply_length } => format!("preview key {key:#04X}  reply {reply_length} bytes"),
+        Call::Estimate { voltage } => format!("estimate voltage {voltage}"),
     }
 }

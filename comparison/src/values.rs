@@ -4,7 +4,9 @@ use crate::random::Random;
 use crate::rest_steps::steps;
 use reference::bench::BENCH_PACK;
 use reference::configuration::Configuration;
+use reference::gauge::REST_COUNT_MAX;
 use reference::refusal::{CURRENT_MAX, TEMPERATURE_MAX, TEMPERATURE_MIN, VOLTAGE_MAX, VOLTAGE_MIN};
+use reference::refusal::{ESTIMATE_REST_MIN, ESTIMATE_VOLTAGE_MAX, ESTIMATE_VOLTAGE_MIN};
 
 /// The bench pack, that pack with some bytes changed, extremes, or any bytes. ILMD is never 0.
 pub fn configuration(random: &mut Random) -> [u8; 10] {
@@ -100,9 +102,36 @@ pub fn preview_length(random: &mut Random) -> usize {
     match random.below(8) {
         0 => 127,
         1 => 129,
-        2 => random.pick(&[0, 0, 1, 41, 64, 126, 130, 256, 384]),
+        2 => random.pick(&[0, 0, 1, 43, 64, 126, 130, 256, 384]),
         _ => 128,
     }
+}
+
+/// A count of rest windows: 0, 1, near what an estimate asks for, at its stop or near it, or any (paper 02, A4).
+pub fn rest_count(random: &mut Random) -> u16 {
+    let (least, stop) = (i64::from(ESTIMATE_REST_MIN), i64::from(REST_COUNT_MAX));
+    let count = match random.below(8) {
+        0 => random.range(0, 1),
+        1 => least + random.range(-2, 1),
+        2 => stop - random.range(0, 1),
+        3 => stop - random.amount(20_000),
+        4 => random.amount(stop),
+        _ => random.range(0, stop),
+    };
+    count as u16
+}
+
+/// The voltage of an estimate: in the table, at one of the points of its rule or between two entries, at its edges, or outside.
+pub fn estimate_voltage(random: &mut Random) -> i32 {
+    let (least, greatest) = (i64::from(ESTIMATE_VOLTAGE_MIN), i64::from(ESTIMATE_VOLTAGE_MAX));
+    let voltage = match random.below(10) {
+        0 => least + random.range(-1, 4),
+        1 => greatest + random.range(-4, 1),
+        2 => random.pick(&[3_400, 3_600, 3_700, 3_800, 3_900, 4_000, 4_100]) + random.range(-4, 4),
+        3 => return beyond(random, ESTIMATE_VOLTAGE_MIN, ESTIMATE_VOLTAGE_MAX),
+        _ => random.range(least, greatest),
+    };
+    voltage as i32
 }
 
 /// A number beyond a range, by one or by any amount in 32 bits.

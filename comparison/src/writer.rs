@@ -34,7 +34,8 @@ impl Writer {
     /// A list that goes on from any gauge in an older form, which is converted first. A reference that refuses it is found when the
     /// trial begins.
     pub fn updated(mut random: Random) -> Writer {
-        let fields = older::form_1(&fields::valid(&mut random));
+        let newest = fields::valid(&mut random);
+        let fields = older::any(&mut random, &newest);
         let (configuration, old) = (fields.meaning(), fields.bytes());
         let history = forms::load(&old).map_or_else(|_| History::opened(configuration), |gauge| History::begun(&gauge));
         Writer { random, configuration, history, start: Start::converted(old), steps: Vec::new() }
@@ -85,6 +86,14 @@ impl Writer {
     pub fn preview(&mut self, key: u8) {
         let reply_length = values::preview_length(&mut self.random);
         self.call(Call::Preview { key, reply_length });
+    }
+
+    pub fn rest(&mut self, windows: i64, temperature: i32) {
+        self.call(Call::Rest { windows: windows as u32, temperature });
+    }
+
+    pub fn estimate(&mut self, voltage: i32) {
+        self.call(Call::Estimate { voltage });
     }
 
     /// A run starts, by DONE or by a charge that tapers off.

@@ -99,7 +99,8 @@ fn the_header_is_read() {
     let convert = "gauge_convert(old: *const u8, old_length: usize, saved: *mut u8, saved_length: usize)";
     let preview =
         "gauge_preview(saved: *const u8, saved_length: usize, key: u8, reply: *mut u8, reply_length: usize, command: &mut u8)";
-    assert!([convert, preview].iter().all(|expected| calls.iter().any(|call| call == expected)));
+    let estimate = "gauge_estimate(saved: *const u8, saved_length: usize, voltage: i32, estimate: &mut u16, distance: &mut i32)";
+    assert!([convert, preview, estimate].iter().all(|expected| calls.iter().any(|call| call == expected)));
     assert!(calls.iter().any(|call| call.starts_with("gauge_read(")));
     assert!(!calls.iter().any(|call| call.starts_with("gauge_pair(") || call.starts_with("gauge_form_length(")));
 }

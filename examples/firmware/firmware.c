@@ -35,6 +35,26 @@ void choose_command(uint8_t bit)
     must("gauge_write", gauge_write(saved, sizeof saved, GAUGE_REG_MODE, kept | bit));
 }
 
+uint32_t command(uint8_t bit, uint8_t key)
+{
+    choose_command(bit);
+    return gauge_write(saved, sizeof saved, GAUGE_REG_CTRL, key);
+}
+
+unsigned at_rate(void)
+{
+    uint8_t ar[2];
+
+    must("gauge_read", gauge_read(saved, sizeof saved, GAUGE_REG_AR, sizeof ar, ar, sizeof ar, 0));
+    return gauge_pair(ar);
+}
+
+void write_at_rate(unsigned value)
+{
+    must("gauge_write", gauge_write(saved, sizeof saved, GAUGE_REG_AR, (uint8_t)(value % 256)));
+    must("gauge_write", gauge_write(saved, sizeof saved, GAUGE_REG_AR + 1, (uint8_t)(value / 256)));
+}
+
 struct shown shown_of(const uint8_t *flags)
 {
     return (struct shown){
@@ -79,6 +99,11 @@ void show(const char *moment)
     struct shown shown = shown_read();
 
     shown_print(moment, &shown);
+}
+
+void show_gauge(const char *moment, const uint8_t *before)
+{
+    printf("%-24s gauge %s\n", moment, memcmp(saved, before, sizeof saved) == 0 ? "unchanged" : "changed");
 }
 
 void show_refusal(const char *call, uint32_t number, const uint8_t *gauge, const uint8_t *before)

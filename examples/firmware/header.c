@@ -1,11 +1,13 @@
 /*
  * Holds the header's limits, lengths, forms, commands and configuration addresses to the gauge: what lies on a limit is accepted, and what lies
- * just beyond is refused with the limit's own number. The addresses of the other registers are held by replay, whose tables name them.
+ * just beyond is refused with the limit's own number. The addresses of the other registers are held by replay, whose tables name them. The two
+ * spellings of the version agree, and no two numbers have one text.
  */
 #include "bench_pack.h"
 #include "gauge.h"
 #include "older_forms.h"
 
+#include <limits.h>
 #include <stdbool.h>
 #include <stdio.h>
 #include <string.h>
@@ -13,6 +15,12 @@
 enum { CURRENT = -100, VOLTAGE = 3600, TEMPERATURE = 1192 };
 
 static int failures;
+
+static void fail(const char *what)
+{
+    printf("%s\n", what);
+    failures++;
+}
 
 static void limit(const char *name, uint32_t on_it, uint32_t beyond, enum gauge_refusal refusal)
 {
@@ -102,12 +110,75 @@ static void command_numbers(void)
     }
 }
 
+/* On a new gauge that has rested so long. */
+static uint32_t estimate(uint32_t windows, int32_t voltage, uint16_t *counts)
+{
+    uint8_t saved[GAUGE_SAVED_LENGTH];
+    int32_t distance;
+    uint32_t number = gauge_open(bench_pack, sizeof bench_pack, saved, sizeof saved);
+
+    if (number == GAUGE_OK)
+        number = gauge_rest(saved, sizeof saved, windows, TEMPERATURE);
+    return number != GAUGE_OK ? number : gauge_estimate(saved, sizeof saved, voltage, counts, &distance);
+}
+
+static uint32_t estimate_after(uint32_t windows)
+{
+    uint16_t counts;
+
+    return estimate(windows, VOLTAGE, &counts);
+}
+
+static uint32_t estimate_at(int32_t voltage)
+{
+    uint16_t counts;
+
+    return estimate(GAUGE_ESTIMATE_REST_MIN, voltage, &counts);
+}
+
+/* Between two entries of the table the lower one is taken. From 3600 to 3700 mV the next entry is several counts of the bench pack more. */
+static void table_step(void)
+{
+    for (int32_t entry = 3600; entry < 3700; entry += GAUGE_ESTIMATE_VOLTAGE_STEP) {
+        uint16_t on_it = 0, below_next = 0, next = 0;
+        uint32_t number = estimate(GAUGE_ESTIMATE_REST_MIN, entry, &on_it);
+        number |= estimate(GAUGE_ESTIMATE_REST_MIN, entry + GAUGE_ESTIMATE_VOLTAGE_STEP - 1, &below_next);
+        number |= estimate(GAUGE_ESTIMATE_REST_MIN, entry + GAUGE_ESTIMATE_VOLTAGE_STEP, &next);
+        if (number == GAUGE_OK && on_it == below_next && below_next < next)
+            continue;
+        printf("step of the table at %d mV: %u, %u, %u counts\n", (int)entry, (unsigned)on_it, (unsigned)below_next, (unsigned)next);
+        failures++;
+    }
+}
+
+/* The count of rest windows, which is the last pair of the saved bytes, after so many of them. */
+static unsigned rest_count(uint32_t windows)
+{
+    uint8_t saved[GAUGE_SAVED_LENGTH] = {0};
+    uint32_t number = gauge_open(bench_pack, sizeof bench_pack, saved, sizeof saved);
+
+    while (number == GAUGE_OK && windows > 0) {
+        uint32_t count = windows < GAUGE_REST_MAX ? windows : GAUGE_REST_MAX;
+        number = gauge_rest(saved, sizeof saved, count, TEMPERATURE);
+        windows -= count;
+    }
+    return number != GAUGE_OK ? UINT_MAX : gauge_pair(saved + GAUGE_SAVED_LENGTH - 2);
+}
+
+static void rest_counts(void)
+{
+    if (rest_count(GAUGE_REST_COUNT_MAX - 1) != GAUGE_REST_COUNT_MAX - 1 || rest_count(GAUGE_REST_COUNT_MAX) != GAUGE_REST_COUNT_MAX ||
+        rest_count(GAUGE_REST_COUNT_MAX + 1) != GAUGE_REST_COUNT_MAX)
+        fail("the count of rest windows stops elsewhere");
+}
+
 /* By form, up to the newest one, which is what gauge_open makes. */
 static const struct {
     const uint8_t *bytes;
     size_t length;
 } older_forms[GAUGE_FORM] = {
     [1] = {kept_form_1, sizeof kept_form_1},
+    [2] = {kept_form_2, sizeof kept_form_2},
 };
 
 static bool is_form(unsigned number)
@@ -131,18 +202,20 @@ static uint32_t convert(unsigned form, size_t length)
     return number == GAUGE_OK && saved[0] != GAUGE_FORM ? GAUGE_REFUSED_SAVED : number;
 }
 
-/* Each form has its length and comes out as the newest one. The numbers below the oldest and above the newest are no forms. */
+/* Each form is taken in its own length alone and comes out as the newest one. The other numbers are no forms in any length. */
 static void forms(void)
 {
     for (unsigned number = 0; number <= UINT8_MAX; number++) {
-        size_t length = gauge_form_length((uint8_t)number);
-        if (is_form(number)) {
-            char name[] = "length of form 255";
-            sprintf(name, "length of form %u", number);
-            limit(name, convert(number, length), convert(number, length + 1), GAUGE_REFUSED_SAVED);
-            limit(name, convert(number, length), convert(number, length - 1), GAUGE_REFUSED_SAVED);
-        } else if (length != 0 || convert(number, GAUGE_SAVED_LENGTH) != GAUGE_REFUSED_SAVED) {
-            printf("%u is a form\n", number);
+        size_t own = gauge_form_length((uint8_t)number);
+        if (is_form(number) != (own != 0)) {
+            printf("form %u: length %u\n", number, (unsigned)own);
+            failures++;
+        }
+        for (size_t length = 0; length <= GAUGE_SAVED_LENGTH + 1; length++) {
+            uint32_t answer = convert(number, length);
+            if (answer == (is_form(number) && length == own ? GAUGE_OK : GAUGE_REFUSED_SAVED))
+                continue;
+            printf("form %u in %u bytes: answered %u\n", number, (unsigned)length, (unsigned)answer);
             failures++;
         }
     }
@@ -169,7 +242,31 @@ static void configuration_addresses(void)
     }
 }
 
-int main(void)
+static void version(void)
+{
+    unsigned major = 0, minor = 0, rest_of_it = 0;
+
+    if (sscanf(GAUGE_VERSION, "%u.%u.%u", &major, &minor, &rest_of_it) != 3 ||
+        10000 * major + 100 * minor + rest_of_it != GAUGE_VERSION_NUMBER)
+        fail("the version's two spellings differ");
+}
+
+/* Each number has a text of its own, and those beyond the last one share another. */
+static void refusal_texts(void)
+{
+    enum { BEYOND = GAUGE_REFUSED_ESTIMATE_VOLTAGE + 1 };
+
+    for (uint32_t number = GAUGE_OK; number <= BEYOND; number++)
+        for (uint32_t other = GAUGE_OK; other < number; other++)
+            if (strcmp(gauge_refusal_text(number), gauge_refusal_text(other)) == 0) {
+                printf("%u and %u have one text\n", (unsigned)other, (unsigned)number);
+                failures++;
+            }
+    if (strcmp(gauge_refusal_text(BEYOND), gauge_refusal_text(UINT32_MAX)) != 0)
+        fail("a number beyond the last one has a text of its own");
+}
+
+static void limits_of_windows_and_rests(void)
 {
     limit("greatest charge current", window(GAUGE_CURRENT_MAX, VOLTAGE, TEMPERATURE),
           window(GAUGE_CURRENT_MAX + 1, VOLTAGE, TEMPERATURE), GAUGE_REFUSED_CURRENT);
@@ -184,6 +281,10 @@ int main(void)
     limit("greatest temperature", window(CURRENT, VOLTAGE, GAUGE_TEMPERATURE_MAX),
           window(CURRENT, VOLTAGE, GAUGE_TEMPERATURE_MAX + 1), GAUGE_REFUSED_TEMPERATURE);
     limit("longest rest", rest(GAUGE_REST_MAX), rest(GAUGE_REST_MAX + 1), GAUGE_REFUSED_REST_LENGTH);
+}
+
+static void limits_of_lengths(void)
+{
     limit("registers", read(GAUGE_REGISTERS), read(GAUGE_REGISTERS + 1), GAUGE_REFUSED_COUNT);
     limit("configuration", open(GAUGE_CONFIGURATION_LENGTH, GAUGE_SAVED_LENGTH),
           open(GAUGE_CONFIGURATION_LENGTH + 1, GAUGE_SAVED_LENGTH), GAUGE_REFUSED_CONFIGURATION_LENGTH);
@@ -191,8 +292,29 @@ int main(void)
           open(GAUGE_CONFIGURATION_LENGTH, GAUGE_SAVED_LENGTH + 1), GAUGE_REFUSED_REPLY);
     limit("reply of a preview", preview_into(GAUGE_REGISTERS), preview_into(GAUGE_REGISTERS + 1), GAUGE_REFUSED_REPLY);
     limit("reply of a preview", preview_into(GAUGE_REGISTERS), preview_into(GAUGE_REGISTERS - 1), GAUGE_REFUSED_REPLY);
+}
+
+static void limits_of_an_estimate(void)
+{
+    limit("least rest before an estimate", estimate_after(GAUGE_ESTIMATE_REST_MIN), estimate_after(GAUGE_ESTIMATE_REST_MIN - 1),
+          GAUGE_REFUSED_NOT_RESTED);
+    limit("least voltage of an estimate", estimate_at(GAUGE_ESTIMATE_VOLTAGE_MIN), estimate_at(GAUGE_ESTIMATE_VOLTAGE_MIN - 1),
+          GAUGE_REFUSED_ESTIMATE_VOLTAGE);
+    limit("greatest voltage of an estimate", estimate_at(GAUGE_ESTIMATE_VOLTAGE_MAX), estimate_at(GAUGE_ESTIMATE_VOLTAGE_MAX + 1),
+          GAUGE_REFUSED_ESTIMATE_VOLTAGE);
+}
+
+int main(void)
+{
+    version();
+    limits_of_windows_and_rests();
+    limits_of_lengths();
+    limits_of_an_estimate();
+    table_step();
+    rest_counts();
     command_numbers();
     forms();
     configuration_addresses();
+    refusal_texts();
     return failures == 0 ? 0 : 1;
 }

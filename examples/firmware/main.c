@@ -9,13 +9,6 @@
 #include <stdlib.h>
 #include <string.h>
 
-/* A command of the host: its bit to MODE, then its key to CTRL. */
-static uint32_t command(uint8_t bit, uint8_t key)
-{
-    choose_command(bit);
-    return gauge_write(saved, sizeof saved, GAUGE_REG_CTRL, key);
-}
-
 static void show_refusals(void)
 {
     uint8_t before[GAUGE_SAVED_LENGTH], reply[4] = {0};
@@ -40,7 +33,7 @@ static void show_refusals(void)
     show_refusal("reply 4, place 3", number, saved, before);
 }
 
-/* Where form 2 keeps some of its fields. Firmware needs none of this; it is here to damage them as a bad flash cell would. */
+/* Where form 3 keeps some of its fields. Firmware needs none of this; it is here to damage them as a bad flash cell would. */
 enum saved_place {
     SAVED_FORM = 0,
     SAVED_HELD_HIGHEST = 18,

@@ -28,4 +28,29 @@ static const uint8_t kept_form_1[] = {
     0x14,                                                       /* FLAGS: CI, VDQ */
 };
 
+/*
+ * Form 2: what version 2.1.1 kept of the bench pack in a break of a drive, after these calls:
+ *   gauge_open;
+ *   1 window of 20, 4150, 1192: full by taper, so a run begins;
+ *   100 windows of -2800, 3650, 1200;
+ *   AR written by the host: 1000;
+ *   15 windows of -5, 3800, 1196: standby, which brings SI to between 6 and 7;
+ *   20 windows of -2800, 3650, 1200;
+ *   a rest of 703, 1180: an hour, whose windows version 2.1.1 did not count.
+ */
+static const uint8_t kept_form_2[] = {
+    0x02,                                                       /* form */
+    0x04, 0x5E, 0x77, 0x05, 0x21, 0x10, 0x00, 0x00, 0x6C, 0x15, /* configuration */
+    0xB8, 0xC2, 0x70, 0x29, 0x11, 0x00, 0x00, 0x00,             /* charge, grains: NAC 545 */
+    0x48, 0x3D, 0x4E, 0x06, 0x0F, 0x00, 0x00, 0x00,             /* drain of the run, grains */
+    0x00, 0x04,                                                 /* LMD 1024 */
+    0x6A, 0x00,                                                 /* SI 106, in sixteenths */
+    0x00, 0x00,                                                 /* current 0 */
+    0x42, 0x0E,                                                 /* VOLT 3650 */
+    0x9C, 0x04,                                                 /* TEMP 1180 */
+    0xE8, 0x03,                                                 /* AR 1000 */
+    0x40,                                                       /* MODE */
+    0x14,                                                       /* FLAGS: CI, VDQ */
+};
+
 #endif

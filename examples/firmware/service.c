@@ -17,20 +17,6 @@ static struct preview {
     uint8_t command;
 } preview;
 
-static unsigned at_rate(void)
-{
-    uint8_t ar[2];
-
-    must("gauge_read", gauge_read(saved, sizeof saved, GAUGE_REG_AR, sizeof ar, ar, sizeof ar, 0));
-    return gauge_pair(ar);
-}
-
-static void write_at_rate(unsigned value)
-{
-    must("gauge_write", gauge_write(saved, sizeof saved, GAUGE_REG_AR, (uint8_t)(value % 256)));
-    must("gauge_write", gauge_write(saved, sizeof saved, GAUGE_REG_AR + 1, (uint8_t)(value / 256)));
-}
-
 /* A count is 3.57 uVh over the sense resistor; to the nearest tenth. */
 static unsigned long tenths_of_mah(unsigned counts)
 {
@@ -58,11 +44,6 @@ static void show_refused_preview(uint32_t number, const struct preview *before)
 {
     printf("%-24s %u, %s\n", "  would be refused", (unsigned)number, gauge_refusal_text(number));
     printf("%-24s %s\n", "  reply and command", memcmp(&preview, before, sizeof preview) == 0 ? "unchanged" : "changed");
-}
-
-static void show_gauge(const char *moment, const uint8_t *before)
-{
-    printf("%-24s gauge %s\n", moment, memcmp(saved, before, sizeof saved) == 0 ? "unchanged" : "changed");
 }
 
 static void look(uint8_t key)

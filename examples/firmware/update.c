@@ -1,29 +1,70 @@
 /*
- * An update in the middle of a drive. Version 1.0.0 of the gauge kept form 1; the new firmware finds its bytes in flash, brings them over and
- * the drive goes on with the charge, the capacity and the run that it had. SI alone, and STTE with it, differ from there on: version 1.0.0 cut
- * SI to whole units in every window, so that a steady load just above it was never shown.
+ * Updates in the middle of a drive. The new firmware finds bytes in flash that an older version of the gauge kept, brings them over and the drive
+ * goes on with the charge, the capacity and the run that it had.
+ *
+ * Version 1.0.0 kept form 1. SI alone, and STTE with it, differ after the update: that version cut SI to whole units in every window, so that a
+ * steady load just above it was never shown.
+ * Version 2.1.1 kept form 2, and every register goes on as it would have done.
+ * Neither counted the windows of rests. The count begins with the update, and an estimate asks for a rest after it.
  */
 #include "firmware.h"
 #include "older_forms.h"
 
+#include <stdbool.h>
 #include <stdio.h>
 #include <stdlib.h>
 #include <string.h>
 
-/* What version 1.0.0 showed when it kept the bytes: NAC, LMD, RSOC, FLAGS, CAC, TTE, SI, STTE. */
-static const struct shown kept_shown = {545, 1024, 53, 20, 428, 9, 5, 6540};
+enum { PARTS = 4, MOMENT_ROOM = 32 };
 
-/* The drive after the update, and what version 1.0.0 showed where it went on itself. */
+/* The drive after an update. */
 static const struct part {
     const char *moment;
     unsigned count;
     int32_t current, voltage, temperature;
-    struct shown version_1;
-} parts[] = {
-    {"standby", 60, -12, 3800, 1196, {544, 1024, 53, 20, 544, 2720, 5, 6528}},
-    {"run", 40, -8000, 3500, 1192, {89, 1024, 8, 20, 0, 0, 5, 1068}},
-    {"run taught", 1, -8000, 3000, 1192, {63, 1008, 6, 2, 0, 0, 5, 756}},
-    {"cradle again", 30, 5000, 3900, 1208, {276, 1008, 27, 128, 276, 65535, 5, 3312}},
+} parts[PARTS] = {
+    {"standby", 60, -12, 3800, 1196},
+    {"run", 40, -8000, 3500, 1192},
+    {"run taught", 1, -8000, 3000, 1192},
+    {"cradle again", 30, 5000, 3900, 1208},
+};
+
+/* What an older version kept, and what it showed: NAC, LMD, RSOC, FLAGS, CAC, TTE, SI, STTE. */
+static const struct version {
+    const char *name;
+    const uint8_t *kept;
+    size_t length;
+    bool si_in_units;
+    struct shown shown;        /* when it kept the bytes */
+    struct shown after[PARTS]; /* where it went on with the drive itself */
+} versions[] = {
+    {
+        .name = "1.0.0",
+        .kept = kept_form_1,
+        .length = sizeof kept_form_1,
+        .si_in_units = true,
+        .shown = {545, 1024, 53, 20, 428, 9, 5, 6540},
+        .after =
+            {
+                {544, 1024, 53, 20, 544, 2720, 5, 6528},
+                {89, 1024, 8, 20, 0, 0, 5, 1068},
+                {63, 1008, 6, 2, 0, 0, 5, 756},
+                {276, 1008, 27, 128, 276, 65535, 5, 3312},
+            },
+    },
+    {
+        .name = "2.1.1",
+        .kept = kept_form_2,
+        .length = sizeof kept_form_2,
+        .shown = {545, 1024, 53, 20, 545, 65535, 7, 4671},
+        .after =
+            {
+                {544, 1024, 53, 20, 544, 2720, 12, 2720},
+                {89, 1024, 8, 20, 0, 0, 12, 445},
+                {63, 1008, 6, 2, 0, 0, 12, 315},
+                {276, 1008, 27, 128, 276, 65535, 12, 1380},
+            },
+    },
 };
 
 /*
@@ -40,47 +81,90 @@ static void show_older_form(const uint8_t *flash)
 {
     uint8_t copy[GAUGE_SAVED_LENGTH], nac[2];
     size_t length = gauge_form_length(flash[0]);
+    char call[MOMENT_ROOM];
 
     memcpy(copy, flash, sizeof copy);
-    show_refusal("read of form 1", gauge_read(copy, length, GAUGE_REG_NAC, 2, nac, sizeof nac, 0), copy, flash);
-    show_refusal("window on form 1", gauge_window(copy, length, -12, 3800, 1196), copy, flash);
+    snprintf(call, sizeof call, "read of form %u", (unsigned)flash[0]);
+    show_refusal(call, gauge_read(copy, length, GAUGE_REG_NAC, 2, nac, sizeof nac, 0), copy, flash);
+    snprintf(call, sizeof call, "window on form %u", (unsigned)flash[0]);
+    show_refusal(call, gauge_window(copy, length, -12, 3800, 1196), copy, flash);
 }
 
 static void show_host_bytes(void)
 {
-    uint8_t host[3];
-
-    must("gauge_read", gauge_read(saved, sizeof saved, GAUGE_REG_MODE, 3, host, sizeof host, 0));
-    printf("%-24s 0x%02X, %u\n", "MODE and AR", (unsigned)host[0], gauge_pair(host + 1));
+    printf("%-24s 0x%02X, %u\n", "MODE and AR", (unsigned)mode(), at_rate());
 }
 
-/* Ends the program unless NAC to TTE are those that version 1.0.0 showed. */
-static void must_go_on_as(const char *moment, const struct shown *version_1)
+static uint32_t estimate(void)
+{
+    uint16_t counts;
+    int32_t distance;
+
+    return gauge_estimate(saved, sizeof saved, 3700, &counts, &distance);
+}
+
+/* However long the cell rested before the update. */
+static void show_no_rest_counted(void)
+{
+    uint8_t before[GAUGE_SAVED_LENGTH];
+
+    memcpy(before, saved, sizeof saved);
+    show_refusal("estimate", estimate(), saved, before);
+}
+
+/* Ends the program unless the registers are those that the older version showed. */
+static void must_go_on_as(const char *moment, const struct version *version, const struct shown *shown)
 {
     struct shown now = shown_read();
 
-    if (now.nac == version_1->nac && now.lmd == version_1->lmd && now.rsoc == version_1->rsoc && now.flags == version_1->flags &&
-        now.cac == version_1->cac && now.tte == version_1->tte)
+    if (now.nac == shown->nac && now.lmd == shown->lmd && now.rsoc == shown->rsoc && now.flags == shown->flags && now.cac == shown->cac &&
+        now.tte == shown->tte && (version->si_in_units || (now.si == shown->si && now.stte == shown->stte)))
         return;
-    printf("%s: not as version 1.0.0\n", moment);
+    printf("%s: not as version %s\n", moment, version->name);
     exit(EXIT_FAILURE);
 }
 
-static void go_on(const struct part *part)
+static void show_by_version(const char *moment, const struct version *version, const struct shown *shown)
+{
+    char by_version[MOMENT_ROOM];
+
+    snprintf(by_version, sizeof by_version, "%s by version %s", moment, version->name);
+    shown_print(by_version, shown);
+}
+
+static void go_on(const struct part *part, const struct version *version, const struct shown *shown)
 {
     windows(part->count, part->current, part->voltage, part->temperature);
     show(part->moment);
-    shown_print("  by version 1.0.0", &part->version_1);
-    must_go_on_as(part->moment, &part->version_1);
+    show_by_version(" ", version, shown);
+    must_go_on_as(part->moment, version, shown);
 }
 
-/* The new firmware keeps the newest form. At the next start that comes out of gauge_convert as it is. */
+static void update(const struct version *version)
+{
+    uint8_t flash[GAUGE_SAVED_LENGTH] = {0};
+
+    memcpy(flash, version->kept, version->length);
+    show_by_version("kept", version, &version->shown);
+    show_older_form(flash);
+    must("gauge_convert", start(flash));
+    show("converted");
+    must_go_on_as("converted", version, &version->shown);
+    show_host_bytes();
+    show_no_rest_counted();
+    for (size_t i = 0; i < PARTS; i++)
+        go_on(&parts[i], version, &version->after[i]);
+}
+
+/* The new firmware keeps the newest form. At the next start that comes out of gauge_convert as it is, the windows of rest with it. */
 static void show_next_start(void)
 {
     uint8_t flash[GAUGE_SAVED_LENGTH];
 
+    must("gauge_rest", gauge_rest(saved, sizeof saved, GAUGE_ESTIMATE_REST_MIN, 1192));
     memcpy(flash, saved, sizeof saved);
     must("gauge_convert", start(flash));
+    must("gauge_estimate", estimate());
     printf("%-24s form %u, gauge %s\n", "next start", (unsigned)flash[0],
            memcmp(saved, flash, sizeof saved) == 0 ? "unchanged" : "changed");
 }
@@ -97,18 +181,9 @@ static void show_later_form(void)
 
 int main(void)
 {
-    uint8_t flash[GAUGE_SAVED_LENGTH] = {0};
-
-    memcpy(flash, kept_form_1, sizeof kept_form_1);
     shown_heading();
-    shown_print("kept by version 1.0.0", &kept_shown);
-    show_older_form(flash);
-    must("gauge_convert", start(flash));
-    show("converted");
-    must_go_on_as("converted", &kept_shown);
-    show_host_bytes();
-    for (size_t i = 0; i < sizeof parts / sizeof *parts; i++)
-        go_on(&parts[i]);
+    for (size_t i = 0; i < sizeof versions / sizeof *versions; i++)
+        update(&versions[i]);
     show_next_start();
     show_later_form();
     return EXIT_SUCCESS;

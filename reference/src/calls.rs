@@ -1,9 +1,10 @@
-//! The seven calls on the saved bytes. 0 is success; a refusal is its number, and no byte has changed then.
+//! The eight calls on the saved bytes. 0 is success; a refusal is its number, and no byte has changed then.
 //!
 //! All but `convert` take the newest form alone, and an older one is 14 there (paper 02, A1).
 
 use crate::command;
 use crate::configuration::Configuration;
+use crate::estimate;
 use crate::forms;
 use crate::gauge::Gauge;
 use crate::preview;
@@ -79,6 +80,17 @@ pub fn read(saved: &[u8], address: u32, count: u32, reply: &mut [u8], place: u32
 pub fn preview(saved: &[u8], key: u8, reply: &mut [u8], command: &mut u8) -> u32 {
     number(load(saved).and_then(|gauge| {
         *command = preview::preview(&gauge, key, reply)?.number();
+        Ok(())
+    }))
+}
+
+/// An estimate of a rested cell's charge from a voltage in mV: the counts, and how far they are from NAC. The saved bytes are only read:
+/// refuses 14, 15, 16.
+pub fn estimate(saved: &[u8], voltage: i32, estimate: &mut u16, distance: &mut i32) -> u32 {
+    number(load(saved).and_then(|gauge| {
+        let found = estimate::estimate(&gauge, voltage)?;
+        *estimate = found.counts as u16;
+        *distance = found.distance;
         Ok(())
     }))
 }

@@ -103,7 +103,7 @@ pub fn carry_out(gauge: &mut Gauge, command: Command) {
     gauge.mode &= !ALL_COMMAND_BITS;
 }
 
-/// PRST: as opened, but h, LMD and CI kept.
+/// PRST: as opened, but h, LMD and CI kept. So it clears the count of rest windows, as FRST does (paper 02, A4: "a reset").
 fn partly_reset(gauge: &Gauge) -> Gauge {
     Gauge { h: gauge.h, lmd: gauge.lmd, flags: gauge.flags & CI, ..Gauge::opened(gauge.configuration) }
 }

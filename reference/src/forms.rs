@@ -1,17 +1,18 @@
-//! The forms of the saved bytes as they are read (paper 01, "Saved gauge"; paper 02, A1).
+//! The forms of the saved bytes as they are read (paper 01, "Saved gauge"; paper 02, A1 and A4).
 //!
 //! Each form reads its fields, holds them to its own conditions and carries them over to the gauge. A new form is one more function
 //! and one more row of `held`; the older ones keep their text.
 //!
 //! Every form begins with the 41 bytes of paper 01: form at 0; configuration at 1; h at 11 and DCR at 19, 8 bytes each; LMD at 27, SI
-//! at 29, c at 31, VOLT at 33, TEMP at 35 and AR at 37, 2 bytes each; MODE at 39; FLAGS at 40. Numbers stand low byte first.
+//! at 29, c at 31, VOLT at 33, TEMP at 35 and AR at 37, 2 bytes each; MODE at 39; FLAGS at 40. Form 3 goes on with the count of rest
+//! windows, 2 bytes at 41. Numbers stand low byte first.
 
 use crate::acceptance;
 use crate::configuration::Configuration;
 use crate::gauge::{Gauge, SIXTEENTHS};
 use crate::refusal;
 
-/// The bytes that every form begins with.
+/// The bytes that every form begins with, and all bytes of forms 1 and 2.
 type First = [u8; 41];
 
 /// Loading: the gauge that bytes of any form hold, carried over, or 14.
@@ -24,6 +25,7 @@ fn held(saved: &[u8]) -> Option<Gauge> {
     match saved.first()? {
         1 => form_1(saved.try_into().ok()?),
         2 => form_2(saved.try_into().ok()?),
+        3 => form_3(saved.try_into().ok()?),
         _ => None,
     }
 }
@@ -35,11 +37,19 @@ fn form_1(saved: &First) -> Option<Gauge> {
     (units <= gauge.configuration.standby_limit()).then_some(gauge)
 }
 
-/// SI in sixteenths, at most 32 × S0 (paper 02, A1).
+/// SI in sixteenths, at most 32 × S0 (paper 02, A1). Always inlined, for the same reason as `first`.
+#[inline(always)]
 fn form_2(saved: &First) -> Option<Gauge> {
     let sixteenths = si(saved);
     let gauge = first(saved, sixteenths)?;
     (sixteenths <= SIXTEENTHS * gauge.configuration.standby_limit()).then_some(gauge)
+}
+
+/// As form 2, and then the count of rest windows, which may be any number that two bytes hold (paper 02, A4).
+fn form_3(saved: &[u8; 43]) -> Option<Gauge> {
+    let mut gauge = form_2(saved[..41].try_into().ok()?)?;
+    gauge.rest_count = pair(saved, 41);
+    Some(gauge)
 }
 
 /// The two bytes of SI, whose unit is the form's own.
@@ -47,7 +57,8 @@ fn si(saved: &First) -> i32 {
     pair(saved, 29)
 }
 
-/// The gauge of the first 41 bytes with the SI that its form makes of them. None if a condition is broken that all forms have.
+/// The gauge of the first 41 bytes with the SI that its form makes of them, and 0 for what they lack. None if a condition is broken that
+/// all forms have.
 /// Always inlined: handed back by a call of its own, the gauge would be copied once more in every call of the handset.
 #[inline(always)]
 fn first(saved: &First, si_sixteenths: i32) -> Option<Gauge> {
@@ -63,11 +74,12 @@ fn first(saved: &First, si_sixteenths: i32) -> Option<Gauge> {
         ar: pair(saved, 37),
         mode: saved[39],
         flags: saved[40],
+        rest_count: 0,
     };
     acceptance::accepted(&gauge).then_some(gauge)
 }
 
-fn pair(saved: &First, at: usize) -> i32 {
+fn pair(saved: &[u8], at: usize) -> i32 {
     i32::from(u16::from_le_bytes([saved[at], saved[at + 1]]))
 }
 

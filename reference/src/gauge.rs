@@ -16,6 +16,9 @@ pub const INIT: u8 = 0x04;
 /// The parts of a unit in which SI is kept (paper 02, A1).
 pub const SIXTEENTHS: i32 = 16;
 
+/// Where the count of rest windows stops (paper 02, A4).
+pub const REST_COUNT_MAX: i32 = 65_535;
+
 /// The fields of the saved gauge. IAV is not one of them: it is |c| always.
 #[derive(Clone, Copy, Debug, PartialEq, Eq)]
 pub struct Gauge {
@@ -34,6 +37,8 @@ pub struct Gauge {
     pub ar: i32,
     pub mode: u8,
     pub flags: u8,
+    /// Rest windows since the last window with c not 0, since opening or a reset (paper 02, A4).
+    pub rest_count: i32,
 }
 
 impl Gauge {
@@ -50,6 +55,7 @@ impl Gauge {
             ar: 0,
             mode: configuration.opened_mode(),
             flags: CI,
+            rest_count: 0,
         }
     }
 

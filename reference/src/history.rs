@@ -1,4 +1,4 @@
-//! The history of demand 3 (paper 01, "Fixing points of demand 3").
+//! The history of demand 3 (paper 01, "Fixing points of demand 3"), and the count of rest windows (paper 02, A4).
 //!
 //! It is fed the opened configuration and the calls' arguments and takes nothing from the gauge. It shares with the gauge only the
 //! rules that are about numbers alone: leak, full test, what a run teaches, which command a key picks, which refusal arguments give.
@@ -7,14 +7,14 @@
 use crate::command::{self, Command};
 use crate::configuration::Configuration;
 use crate::fixing::{FixingPoint, FixingPoints};
-use crate::gauge::Gauge;
+use crate::gauge::{Gauge, REST_COUNT_MAX};
 use crate::leak::{self, GRAINS_PER_COUNT, GRAINS_PER_UNIT, GREATEST_DRAIN};
 use crate::learning;
 use crate::refusal;
 use crate::window::is_full;
 
 /// A call of a list, with its arguments. Of a reply only the length matters here. A preview, of a key at CTRL, may stand anywhere in a
-/// list and moves nothing (paper 02, A2).
+/// list and moves nothing (paper 02, A2); so may an estimate (A4).
 #[derive(Clone, Copy, Debug, PartialEq, Eq)]
 pub enum Call {
     Window { current: i32, voltage: i32, temperature: i32 },
@@ -22,6 +22,7 @@ pub enum Call {
     Write { address: u32, value: u8 },
     Read { address: u32, count: u32, reply_length: usize, place: u32 },
     Preview { key: u8, reply_length: usize },
+    Estimate { voltage: i32 },
 }
 
 /// What the history keeps. The sums have no greatest value, so they are wider than any charge.
@@ -40,6 +41,8 @@ pub struct History {
     pub run: Option<i64>,
     pub mode: u8,
     pub ar: i32,
+    /// Rest windows since the last window with c not 0, since opening or a reset, at most 65,535 (paper 02, A4).
+    pub rest_count: i32,
 }
 
 impl History {
@@ -54,6 +57,7 @@ impl History {
             run: None,
             mode: configuration.opened_mode(),
             ar: 0,
+            rest_count: 0,
         }
     }
 
@@ -70,6 +74,7 @@ impl History {
             run: gauge.vdq().then_some(gauge.dcr),
             mode: gauge.mode,
             ar: gauge.ar,
+            rest_count: gauge.rest_count,
         }
     }
 
@@ -94,7 +99,8 @@ impl History {
         i64::from(self.l) * GRAINS_PER_COUNT
     }
 
-    /// The number with which a call would be refused, by its arguments and the MODE and AR kept here. 14 never arises.
+    /// The number with which a call would be refused, by its arguments and the MODE, AR and count of rest windows kept here. 14 never
+    /// arises.
     pub fn refused(&self, call: &Call) -> Result<(), u32> {
         match *call {
             Call::Window { current, voltage, temperature } => refusal::window(current, voltage, temperature),
@@ -102,6 +108,7 @@ impl History {
             Call::Write { address, value } => refusal::write(address, value, self.mode, self.ar),
             Call::Read { address, count, reply_length, place } => refusal::read(address, count, reply_length, place),
             Call::Preview { key, reply_length } => refusal::preview(key, self.mode, self.ar, reply_length).map(|_| ()),
+            Call::Estimate { voltage } => refusal::estimate(self.rest_count, voltage),
         }
     }
 
@@ -112,7 +119,7 @@ impl History {
             Call::Window { current, voltage, temperature } => self.window(current, voltage, temperature),
             Call::Rest { windows, temperature } => self.rest(windows, temperature),
             Call::Write { address, value } => self.write(address, value),
-            Call::Read { .. } | Call::Preview { .. } => FixingPoints::default(),
+            Call::Read { .. } | Call::Preview { .. } | Call::Estimate { .. } => FixingPoints::default(),
         })
     }
 
@@ -121,6 +128,9 @@ impl History {
         let leak = leak::leak(self.h(), self.configuration.sd(), leak::w(t));
         self.k += i128::from(leak);
         self.q += i128::from(c);
+        if c != 0 {
+            self.rest_count = 0;
+        }
         if c > 0 {
             self.run = None;
         } else {
@@ -173,6 +183,7 @@ impl History {
             let leak = leak::leak(self.h(), self.configuration.sd(), w);
             self.k += i128::from(leak);
             self.drain(leak);
+            self.rest_count = (self.rest_count + 1).min(REST_COUNT_MAX);
         }
         FixingPoints::default()
     }
@@ -218,6 +229,7 @@ impl History {
                 self.run = None;
                 self.mode = self.configuration.opened_mode();
                 self.ar = 0;
+                self.rest_count = 0;
                 FixingPoints::default()
             }
         };

@@ -3,7 +3,7 @@
 //! It is there to be compared with the shipped library: `comparison` makes the same calls on both. Every rule stands once,
 //! in the file that carries its name, and its comment names the place of the paper it follows.
 //!
-//! - `calls` has the seven calls on the saved bytes; all else of the gauge is below it.
+//! - `calls` has the eight calls on the saved bytes; all else of the gauge is below it.
 //! - `saved` is the newest form of those bytes, `forms` reads every form and carries it over.
 //! - `history` works out demand 3 from the configuration and the calls' arguments and never looks at a gauge, except at a loaded one
 //!   to begin with.
@@ -16,6 +16,7 @@ pub mod calls;
 pub mod command;
 pub mod compensation;
 pub mod configuration;
+pub mod estimate;
 pub mod fixing;
 pub mod forms;
 pub mod gauge;

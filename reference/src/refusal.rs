@@ -1,6 +1,6 @@
-//! The fourteen numbers (paper 01, "The fourteen numbers") and, for each call, which of them its arguments give.
+//! The numbers (paper 01, "The fourteen numbers"; paper 02, A4: 15 and 16) and, for each call, which of them its arguments give.
 //!
-//! Number 14 is about the saved bytes and is found in `forms`. Each function here tests in the order of the paper's table.
+//! Number 14 is about the saved bytes and is found in `forms`. Each function here tests in the order of the papers.
 
 use crate::command::{self, Command};
 
@@ -18,6 +18,8 @@ pub const LMD_ZERO: u32 = 11;
 pub const COUNT: u32 = 12;
 pub const REPLY: u32 = 13;
 pub const SAVED: u32 = 14;
+pub const NOT_RESTED: u32 = 15;
+pub const ESTIMATE_VOLTAGE: u32 = 16;
 
 pub const CURRENT_MAX: i32 = 28_011;
 pub const VOLTAGE_MIN: i32 = 2_600;
@@ -26,6 +28,11 @@ pub const TEMPERATURE_MIN: i32 = 1_012;
 pub const TEMPERATURE_MAX: i32 = 1_372;
 pub const REST_MAX: u32 = 16_875;
 pub const REGISTERS: u32 = 128;
+
+// What an estimate asks for (paper 02, A4): rest windows, and a voltage that the table has.
+pub const ESTIMATE_REST_MIN: i32 = 422;
+pub const ESTIMATE_VOLTAGE_MIN: i32 = 3_000;
+pub const ESTIMATE_VOLTAGE_MAX: i32 = 4_200;
 
 pub fn current_in_range(current: i32) -> bool {
     (-CURRENT_MAX..=CURRENT_MAX).contains(&current)
@@ -89,6 +96,17 @@ pub fn read(address: u32, count: u32, reply_length: usize, place: u32) -> Result
     }
     if u64::from(place) + u64::from(count) > reply_length as u64 {
         return Err(REPLY);
+    }
+    Ok(())
+}
+
+/// 15, then 16: after too little rest a voltage outside the table is 15 too (paper 02, A4).
+pub fn estimate(rest_count: i32, voltage: i32) -> Result<(), u32> {
+    if rest_count < ESTIMATE_REST_MIN {
+        return Err(NOT_RESTED);
+    }
+    if !(ESTIMATE_VOLTAGE_MIN..=ESTIMATE_VOLTAGE_MAX).contains(&voltage) {
+        return Err(ESTIMATE_VOLTAGE);
     }
     Ok(())
 }

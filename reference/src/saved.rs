@@ -1,11 +1,11 @@
-//! The newest form of the saved bytes: what saving writes, and the only form that the calls take, converting aside (paper 02, A1).
+//! The newest form of the saved bytes: what saving writes, and the only form that the calls take, converting aside (paper 02, A1 and A4).
 
 use crate::forms;
 use crate::gauge::Gauge;
 use crate::refusal;
 
-pub const FORM: u8 = 2;
-pub const LENGTH: usize = 41;
+pub const FORM: u8 = 3;
+pub const LENGTH: usize = 43;
 
 /// The gauge that bytes of the newest form hold, or 14. An older form is 14 here; `forms::load` reads it.
 pub fn load(saved: &[u8]) -> Result<Gauge, u32> {
@@ -27,4 +27,5 @@ pub fn store(gauge: &Gauge, saved: &mut [u8; LENGTH]) {
     }
     saved[39] = gauge.mode;
     saved[40] = gauge.flags;
+    saved[41..43].copy_from_slice(&(gauge.rest_count as u16).to_le_bytes());
 }

@@ -35,13 +35,13 @@ impl Trace {
     }
 
     /// Makes a call on the gauge and the history: the fixing points that the history finds in it. A refusal is its number and changes
-    /// neither. A read or a preview moves nothing; what it shows is had from the saved bytes.
+    /// neither. A read, a preview or an estimate moves nothing; what it gives is had from the saved bytes.
     pub fn call(&mut self, call: &Call) -> Result<FixingPoints, u32> {
         let answer = match *call {
             Call::Window { current, voltage, temperature } => calls::window(&mut self.saved, current, voltage, temperature),
             Call::Rest { windows, temperature } => calls::rest(&mut self.saved, windows, temperature),
             Call::Write { address, value } => calls::write(&mut self.saved, address, value),
-            Call::Read { .. } | Call::Preview { .. } => 0,
+            Call::Read { .. } | Call::Preview { .. } | Call::Estimate { .. } => 0,
         };
         if answer != 0 {
             return Err(answer);
@@ -61,7 +61,7 @@ impl Trace {
         self.call(&Call::Write { address, value })
     }
 
-    /// The 41 bytes, for `calls::read` and `calls::preview`.
+    /// The bytes, for `calls::read`, `calls::preview` and `calls::estimate`.
     pub fn saved(&self) -> &[u8; saved::LENGTH] {
         &self.saved
     }

@@ -1,4 +1,4 @@
-//! The five steps of a window (paper 01, "A window").
+//! The five steps of a window (paper 01, "A window"), and what it does to the count of rest windows (paper 02, A4).
 
 use crate::gauge::{Gauge, CHGS, CI, EDV1, EDVF, VDQ};
 use crate::leak::{self, GRAINS_PER_UNIT};
@@ -22,6 +22,7 @@ pub fn window(gauge: &mut Gauge, a: i32, v: i32, t: i32) {
     step_3(gauge);
     step_4(gauge);
     step_5(gauge);
+    end_rest(gauge);
 }
 
 /// CHGS, and the leak by the NAC from before the window, charging or not. VOLT, TEMP and c (so IAV too) are set by now.
@@ -85,5 +86,12 @@ fn qualifies(gauge: &Gauge) -> bool {
 fn step_5(gauge: &mut Gauge) {
     if gauge.c < 0 && gauge.iav() <= gauge.configuration.standby_limit() {
         gauge.si_sixteenths = 15 * gauge.si_sixteenths / 16 + gauge.iav();
+    }
+}
+
+/// A counted current ends the rest. A window without one is no rest window either: it neither counts nor clears (paper 02, A4).
+fn end_rest(gauge: &mut Gauge) {
+    if gauge.c != 0 {
+        gauge.rest_count = 0;
     }
 }

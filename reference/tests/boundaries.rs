@@ -2,12 +2,11 @@
 
 mod common;
 use common::*;
-use reference::calls;
 use reference::gauge::{Gauge, CHGS, CI, EDV1, EDVF, INIT, VDQ};
 use reference::{leak, learning};
 
 /// A run of the bench pack with a charge and a drain.
-fn run(h: i64, dcr: i64) -> [u8; 41] {
+fn run(h: i64, dcr: i64) -> Saved {
     with(|gauge| {
         gauge.h = h;
         gauge.dcr = dcr;
@@ -15,9 +14,8 @@ fn run(h: i64, dcr: i64) -> [u8; 41] {
     })
 }
 
-fn rested(mut bytes: [u8; 41], windows: u32, temperature: i32) -> Gauge {
-    assert_eq!(calls::rest(&mut bytes, windows, temperature), 0);
-    gauge(&bytes)
+fn rested(bytes: Saved, windows: u32, temperature: i32) -> Gauge {
+    gauge(&after_rest(bytes, windows, temperature))
 }
 
 #[test]
@@ -94,16 +92,9 @@ fn a_rest_keeps_all_but_what_its_rule_names() {
     let before = gauge(&line_three());
     let next = rested(line_three(), 1, 1092);
     let leak = 1019 * 2;
-    let expected = Gauge { temp: 1092, c: 0, h: before.h - leak, dcr: before.dcr + leak, ..before };
+    let expected = Gauge { temp: 1092, c: 0, h: before.h - leak, dcr: before.dcr + leak, rest_count: 1, ..before };
     assert_eq!(next, expected);
-    assert_eq!(
-        rested(line_three(), 7, 1092),
-        gauge(&{
-            let mut bytes = line_three();
-            (0..7).for_each(|_| assert_eq!(calls::rest(&mut bytes, 1, 1092), 0));
-            bytes
-        })
-    );
+    assert_eq!(rested(line_three(), 7, 1092), gauge(&(0..7).fold(line_three(), |bytes, _| after_rest(bytes, 1, 1092))));
 }
 
 #[test]

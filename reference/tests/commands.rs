@@ -7,7 +7,7 @@ use reference::command::{decide, Command};
 use reference::gauge::{Gauge, CHGS, CI, EDV1, EDVF, VDQ};
 
 /// A gauge in which every field differs from the opened one.
-fn used(mode: u8, ar: i32) -> [u8; 41] {
+fn used(mode: u8, ar: i32) -> Saved {
     with(|gauge| {
         *gauge = Gauge {
             h: 500 * G + 77,
@@ -20,6 +20,7 @@ fn used(mode: u8, ar: i32) -> [u8; 41] {
             ar,
             mode,
             flags: CHGS | VDQ | EDV1 | EDVF,
+            rest_count: 421,
             ..*gauge
         }
     })
@@ -106,7 +107,7 @@ fn opening_takes_bit_7_of_pkcfg() {
     let mut pack = reference::bench::BENCH_PACK;
     for (pkcfg, mode) in [(0x80, 0xC4), (0x7F, 0x44), (0xFF, 0xC4)] {
         pack[6] = pkcfg;
-        let mut bytes = [0; 41];
+        let mut bytes = [0; 43];
         assert_eq!(open(&pack, &mut bytes), 0);
         assert_eq!(gauge(&bytes).mode, mode);
     }

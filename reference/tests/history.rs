@@ -6,7 +6,7 @@ use reference::fixing::FixingPoint::{self, *};
 use reference::fixing::FixingPoints;
 use reference::history::{Call, History};
 use reference::trace::Trace;
-use reference::{bench::BENCH_PACK, saved};
+use reference::{bench::BENCH_PACK, calls, saved};
 
 /// A trace that asserts after every call what demand 3 says of the gauge and the history.
 struct Held(Trace);
@@ -21,6 +21,7 @@ impl Held {
         let history = self.0.history();
         assert_eq!((gauge.h, gauge.lmd, gauge.dcr), (history.h(), history.l, history.r()));
         assert_eq!((gauge.vdq(), gauge.ar), (history.run.is_some(), history.ar));
+        assert_eq!(gauge.rest_count, history.rest_count);
         assert_eq!(gauge.mode & 0x3B, history.mode & 0x3B);
     }
 
@@ -28,6 +29,11 @@ impl Held {
         let points = self.0.window(current, voltage, temperature).unwrap();
         self.agree();
         points.iter().collect()
+    }
+
+    fn rest(&mut self, windows: u32, temperature: i32) {
+        self.0.rest(windows, temperature).unwrap();
+        self.agree();
     }
 
     fn write(&mut self, address: u32, value: u8) -> Vec<FixingPoint> {
@@ -97,6 +103,7 @@ fn a_refused_call_changes_nothing() {
     let read = Call::Read { address: 0x7F, count: 2, reply_length: 4, place: 0 };
     assert_eq!(held.0.call(&read), Err(12));
     assert_eq!(held.0.call(&Call::Preview { key: 0xA9, reply_length: 128 }), Err(9));
+    assert_eq!(held.0.call(&Call::Estimate { voltage: 3700 }), Err(15));
     assert_eq!((*held.0.saved(), *held.0.history()), before);
 }
 
@@ -120,6 +127,49 @@ fn a_preview_moves_neither_gauge_nor_history() {
 }
 
 #[test]
+fn the_history_foresees_the_number_of_an_estimate() {
+    // Paper 02, A4: by the calls alone. A rest of 421, a window within DMF and a rest of 1 come to 422.
+    let mut held = Held::open(&BENCH_PACK);
+    let estimate = |held: &mut Held, voltage| {
+        let before = (*held.0.saved(), *held.0.history());
+        let number = held.0.call(&Call::Estimate { voltage }).err().unwrap_or(0);
+        assert_eq!(calls::estimate(&before.0, voltage, &mut 0, &mut 0), number);
+        assert_eq!((*held.0.saved(), *held.0.history()), before);
+        number
+    };
+    held.window(20, 4150, 1192);
+    held.rest(421, 1192);
+    held.window(-2, 3700, 1192);
+    assert_eq!([2_999, 3_000, 4_201].map(|voltage| estimate(&mut held, voltage)), [15, 15, 15]);
+    held.rest(1, 1192);
+    assert_eq!([2_999, 3_000, 4_200, 4_201].map(|voltage| estimate(&mut held, voltage)), [16, 0, 0, 16]);
+    // The run from full is still under way and teaches.
+    assert_eq!(held.window(-21, 3000, 1192), [QualifiedRun]);
+    assert_eq!(estimate(&mut held, 3_700), 15);
+}
+
+#[test]
+fn the_history_counts_rest_windows_by_the_calls_alone() {
+    let mut held = Held::open(&BENCH_PACK);
+    for count in [16_875, 33_750, 50_625, 65_535, 65_535] {
+        held.rest(16_875, 1192);
+        assert_eq!(held.0.history().rest_count, count);
+    }
+    for (mode, key) in [(0x20, 0xA9), (0x10, 0xA9), (0x01, 0x56)] {
+        held.command(9, mode, key);
+        assert_eq!(held.0.history().rest_count, 65_535);
+    }
+    for (mode, rests) in [(0x08, 3), (0x02, 4)] {
+        held.command(9, mode, 0xA9);
+        assert_eq!(held.0.history().rest_count, 0);
+        held.rest(rests, 1192);
+        assert_eq!(held.0.history().rest_count, rests as i32);
+    }
+    held.window(3, 3700, 1192);
+    assert_eq!(held.0.history().rest_count, 0);
+}
+
+#[test]
 fn a_run_ends_above_the_greatest_drain() {
     let mut held = Held::open(&BENCH_PACK);
     held.command(1, 0x01, 0x56);
@@ -137,8 +187,7 @@ fn a_run_ends_above_the_greatest_drain() {
 fn rests_leak_window_by_window() {
     let mut held = Held::open(&BENCH_PACK);
     held.window(20, 4150, 1192);
-    held.0.rest(16_875, 1372).unwrap();
-    held.agree();
+    held.rest(16_875, 1372);
     assert!(held.0.history().h() < 1024 * G - 16_875 * 1000 * 128);
     assert_eq!(held.0.history().h() + held.0.history().r(), 1024 * G);
 }
@@ -152,15 +201,16 @@ fn a_history_begins_at_a_loaded_gauge() {
     held.window(20, 4150, 1192);
     held.window(-3000, 3600, 1192);
     held.write(0x02, 9);
+    held.rest(5, 1192);
     let mut loaded = Held(Trace::load(held.0.saved()).unwrap());
     let begun = *loaded.0.history();
     assert_eq!((begun.p, begun.q, begun.k), (held.0.history().h(), 0, 0));
-    assert_eq!((begun.l, begun.run, begun.ar), (1024, held.0.history().run, 9));
+    assert_eq!((begun.l, begun.run, begun.ar, begun.rest_count), (1024, held.0.history().run, 9, 5));
 
     // The run that was under way goes on and teaches the same capacity.
     for both in [&mut held, &mut loaded] {
         assert_eq!(both.window(-21, 3000, 1192), [QualifiedRun]);
     }
     assert_eq!(held.0.saved(), loaded.0.saved());
-    assert_eq!(Trace::load(&[0; 41]).err(), Some(14));
+    assert_eq!(Trace::load(&[0; 43]).err(), Some(14));
 }

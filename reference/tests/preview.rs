@@ -10,7 +10,7 @@ const REPLY_BEFORE: u8 = 0xEE;
 const COMMAND_BEFORE: u8 = 0x99;
 
 /// A gauge with every field used, and a MODE and an AR.
-fn host(mode: u8, ar: i32) -> [u8; 41] {
+fn host(mode: u8, ar: i32) -> Saved {
     with(|gauge| {
         *gauge = Gauge {
             h: 500 * G + 77,
@@ -23,6 +23,7 @@ fn host(mode: u8, ar: i32) -> [u8; 41] {
             ar,
             mode,
             flags: CHGS | VDQ | EDV1 | EDVF,
+            rest_count: 421,
             ..*gauge
         }
     })
@@ -142,7 +143,8 @@ fn number_13_comes_last_and_14_first() {
     }
     for (key, length) in [(0xA9, 128), (0x57, 128), (0xA9, 127), (0x57, 129)] {
         refuses(&damaged, key, length, 14);
-        refuses(&host(0x20, 9)[..40], key, length, 14);
+        refuses(&host(0x20, 9)[..42], key, length, 14);
         refuses(&as_form_1(&opened()), key, length, 14);
+        refuses(&as_form_2(&opened()), key, length, 14);
     }
 }

@@ -1,12 +1,12 @@
-//! The fourteen examples of the paper's table, the order of the tests, and that a refusal changes no byte.
+//! The fourteen examples of paper 01's table, the order of the tests, and that a refusal changes no byte.
 
 mod common;
 use common::*;
 use reference::bench::BENCH_PACK;
-use reference::calls::{open, read, rest, window, write};
+use reference::calls::{estimate, open, read, rest, window, write};
 
 /// A gauge with a MODE and an AR.
-fn host(mode: u8, ar: i32) -> [u8; 41] {
+fn host(mode: u8, ar: i32) -> Saved {
     with(|gauge| {
         gauge.mode = mode;
         gauge.ar = ar;
@@ -14,7 +14,7 @@ fn host(mode: u8, ar: i32) -> [u8; 41] {
 }
 
 /// Runs a call on a copy and asserts its number and that the copy is unchanged.
-fn refuses(bytes: [u8; 41], number: u32, call: impl Fn(&mut [u8]) -> u32) {
+fn refuses(bytes: Saved, number: u32, call: impl Fn(&mut [u8]) -> u32) {
     let mut copy = bytes;
     assert_eq!(call(&mut copy), number);
     assert_eq!(copy, bytes);
@@ -26,10 +26,10 @@ fn numbers_1_and_2_then_13_of_opening() {
     refuses(opened(), 1, |saved| open(&BENCH_PACK[..9], saved));
     refuses(opened(), 1, |saved| open(&[1; 11], saved));
     refuses(opened(), 2, |saved| open(&empty, saved));
-    refuses(opened(), 1, |saved| open(&empty[..9], &mut saved[..40]));
-    refuses(opened(), 2, |saved| open(&empty, &mut saved[..40]));
-    refuses(opened(), 13, |saved| open(&BENCH_PACK, &mut saved[..40]));
-    assert_eq!(open(&BENCH_PACK, &mut [0; 42]), 13);
+    refuses(opened(), 1, |saved| open(&empty[..9], &mut saved[..42]));
+    refuses(opened(), 2, |saved| open(&empty, &mut saved[..42]));
+    refuses(opened(), 13, |saved| open(&BENCH_PACK, &mut saved[..42]));
+    assert_eq!(open(&BENCH_PACK, &mut [0; 44]), 13);
 }
 
 #[test]
@@ -101,7 +101,8 @@ fn number_14_comes_first() {
     refuses(damaged, 14, |saved| rest(saved, 0, 0));
     refuses(damaged, 14, |saved| write(saved, 0x04, 0));
     refuses(damaged, 14, |saved| read(saved, 0, 0, &mut [], 0));
-    refuses(opened(), 14, |saved| window(&mut saved[..40], 0, 3700, 1192));
+    refuses(damaged, 14, |saved| estimate(saved, 0, &mut 0, &mut 0));
+    refuses(opened(), 14, |saved| window(&mut saved[..42], 0, 3700, 1192));
 }
 
 #[test]

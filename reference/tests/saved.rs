@@ -23,17 +23,18 @@ fn every_field_stands_in_its_place() {
             ar: 0xBEEF,
             mode: 0x5A,
             flags: VDQ,
+            rest_count: 0xA987,
             ..*gauge
         }
     });
     #[rustfmt::skip]
     let expected = [
-        2, 0x04, 0x5E, 0x77, 0x05, 0x21, 0x10, 0x00, 0x00, 0x6C, 0x15,
+        3, 0x04, 0x5E, 0x77, 0x05, 0x21, 0x10, 0x00, 0x00, 0x6C, 0x15,
         0x9A, 0x78, 0x56, 0x34, 0x12, 0, 0, 0, 0x65, 0x87, 0x09, 0x21, 0x03, 0, 0, 0,
-        0xDC, 0xFE, 0x23, 0x01, 0xCC, 0xED, 0xBC, 0x0A, 0xD2, 0x04, 0xEF, 0xBE, 0x5A, 0x04,
+        0xDC, 0xFE, 0x23, 0x01, 0xCC, 0xED, 0xBC, 0x0A, 0xD2, 0x04, 0xEF, 0xBE, 0x5A, 0x04, 0x87, 0xA9,
     ];
     assert_eq!(bytes, expected);
-    let mut again = [0xEE; 41];
+    let mut again = [0xEE; 43];
     store(&gauge(&bytes), &mut again);
     assert_eq!(again, bytes);
 }
@@ -41,8 +42,8 @@ fn every_field_stands_in_its_place() {
 #[test]
 fn length_form_and_ilmd() {
     let bytes = opened();
-    assert!((0..=64).all(|length| load(&[bytes.as_slice(), &[0; 23]].concat()[..length]).is_ok() == (length == 41)));
-    for form in [0, 1, 3, 255] {
+    assert!((0..=64).all(|length| load(&[bytes.as_slice(), &[0; 23]].concat()[..length]).is_ok() == (length == 43)));
+    for form in [0, 1, 2, 4, 255] {
         let mut other = bytes;
         other[0] = form;
         assert_eq!(load(&other), Err(14));
@@ -116,7 +117,17 @@ fn flag_bits_without_a_name_are_0() {
 }
 
 #[test]
+fn every_count_of_rest_windows_is_accepted() {
+    for rest_count in 0..=65_535 {
+        assert_eq!(gauge(&with(|gauge| gauge.rest_count = rest_count)).rest_count, rest_count);
+    }
+}
+
+#[test]
 fn gauges_that_no_list_reaches_are_accepted() {
+    // A current in the last window leaves no rest windows behind it, but neither number is asked about the other.
+    let charging = |gauge: &mut Gauge| *gauge = Gauge { c: 40, flags: CI | CHGS, rest_count: 422, ..*gauge };
+    assert!(accepted(charging));
     assert!(accepted(|gauge| gauge.flags = EDVF));
     assert!(accepted(|gauge| gauge.mode = 0xFF));
     assert!(accepted(|gauge| gauge.c = -28_011));

@@ -9,10 +9,10 @@ const SI: u32 = 0x1A;
 const STTE: u32 = 0x1C;
 
 /// The bench pack with another ISLC, opened. S0 is 2 × ISLC.
-fn opened_with(islc: u8) -> [u8; 41] {
+fn opened_with(islc: u8) -> Saved {
     let mut pack = BENCH_PACK;
     pack[3] = islc;
-    let mut bytes = [0; 41];
+    let mut bytes = [0; 43];
     assert_eq!(calls::open(&pack, &mut bytes), 0);
     bytes
 }
@@ -22,7 +22,7 @@ fn sixteenths(bytes: &[u8]) -> i32 {
 }
 
 /// The bytes after so many windows of a steady load.
-fn loaded(mut bytes: [u8; 41], load: i32, windows: usize) -> [u8; 41] {
+fn loaded(mut bytes: Saved, load: i32, windows: usize) -> Saved {
     for _ in 0..windows {
         bytes = after(bytes, -load, 3600, 1192);
     }
@@ -34,7 +34,7 @@ fn it_follows_light_discharges_only() {
     for (a, si) in [(-20, 170), (-21, 160), (-3, 153), (20, 160), (-2, 160)] {
         assert_eq!(sixteenths(&after(opened(), a, 3600, 1192)), si);
     }
-    let greatest = with_si(2, &opened(), 320);
+    let greatest = with_si(&opened(), 320);
     assert_eq!(sixteenths(&after(greatest, -20, 3600, 1192)), 320);
     assert_eq!(sixteenths(&after(greatest, -19, 3600, 1192)), 319);
 }
@@ -64,19 +64,19 @@ fn a_steady_load_of_40_is_reached_from_30() {
 #[test]
 fn a_load_that_is_shown_stays() {
     for si in 625..=640 {
-        let bytes = with_si(2, &opened_with(15), si);
+        let bytes = with_si(&opened_with(15), si);
         assert_eq!((pair(&bytes, SI), sixteenths(&loaded(bytes, 40, 1))), (40, i32::from(si)));
     }
     let bytes = opened_with(15);
-    assert_eq!(sixteenths(&loaded(with_si(2, &bytes, 624), 40, 1)), 625);
-    assert_eq!(sixteenths(&loaded(with_si(2, &bytes, 641), 40, 1)), 640);
+    assert_eq!(sixteenths(&loaded(with_si(&bytes, 624), 40, 1)), 625);
+    assert_eq!(sixteenths(&loaded(with_si(&bytes, 641), 40, 1)), 640);
 }
 
 #[test]
 fn every_light_load_settles_at_itself() {
     for load in 3..=60 {
-        let below = loaded(with_si(2, &opened_with(15), 0), load, 300);
-        let above = loaded(with_si(2, &opened_with(15), 960), load, 300);
+        let below = loaded(with_si(&opened_with(15), 0), load, 300);
+        let above = loaded(with_si(&opened_with(15), 960), load, 300);
         assert_eq!((sixteenths(&below), sixteenths(&above)), (16 * load - 15, 16 * load));
         assert_eq!([below, above].map(|bytes| i32::from(pair(&bytes, SI))), [load, load]);
     }
@@ -85,9 +85,9 @@ fn every_light_load_settles_at_itself() {
 #[test]
 fn the_register_shows_the_ceiling() {
     for (si, shown) in [(0, 0), (1, 1), (15, 1), (16, 1), (17, 2), (319, 20), (320, 20)] {
-        assert_eq!(pair(&with_si(2, &opened(), si), SI), shown);
+        assert_eq!(pair(&with_si(&opened(), si), SI), shown);
     }
-    let widest = with_si(2, &opened_with(255), 32 * 510);
+    let widest = with_si(&opened_with(255), 32 * 510);
     assert_eq!(pair(&widest, SI), 1020);
 }
 
@@ -98,5 +98,5 @@ fn without_s0_there_is_no_standby_current() {
         assert!(pair(&bytes, 0x0C) > 0);
         assert_eq!((sixteenths(&bytes), pair(&bytes, SI), pair(&bytes, STTE)), (0, 0, 65_535));
     }
-    assert_eq!(calls::window(&mut with_si(2, &full, 1), -3, 3600, 1192), 14);
+    assert_eq!(calls::window(&mut with_si(&full, 1), -3, 3600, 1192), 14);
 }

@@ -13,7 +13,7 @@ refusal() {
     expect "refusal $number: numbers of the rows" "$(for ((i = 0; i < $# + 2; i++)); do echo 0; done; echo "$number")" \
         "$(rows | awk '{ print $2 }')"
     expect "refusal $number: registers kept" "$(registers | tail -n 2 | sed -n 1p)" "$(registers | tail -n 1)"
-    expect "refusal $number: time kept" "0:00:10.24" "$(rows | tail -n 1 | awk '{ print $1 }')"
+    expect "refusal $number: time kept" "$(rows | tail -n 2 | awk 'NR == 1 { print $1 }')" "$(rows | tail -n 1 | awk '{ print $1 }')"
     expect "refusal $number: summary, nothing handed out, and status" \
         "# $(($# + 3)) calls, 1 refused"$'\n'"# refused with $number ($text): 1, first refusal.txt:$(($# + 3)) 0" \
         "$(grep '^#' printed) $status"
@@ -43,16 +43,20 @@ refusal 12 'count 0, or registers past the last one' 'read 0 0'
 refusal 14 'saved bytes are no gauge' 'load 00'
 refusal 14 'saved bytes are no gauge' \
     'load 00 04 5E 77 05 21 10 00 00 6C 15 00 00 00 00 00 00 00 00 00 00 00 00 00 00 00 00 00 04 0A 00 00 00 00 00 00 00 00 00 44 10'
+refusal 15 'too few rest windows for an estimate' 'estimate 3700'
+refusal 15 'too few rest windows for an estimate' 'rest 421 1192' 'estimate 2999'
+refusal 16 'voltage outside the table' 'rest 422 1192' 'estimate 2999'
+refusal 16 'voltage outside the table' 'rest 422 1192' 'estimate 4201'
 
 # Without a gauge: no registers, and 14 for every call, until a call opens one.
-list none.txt 'open 00 5E 77 05 21 10 00 00 6C 15\n2 3700 1192\nrest 1 1192\nwrite 2 1\nread 0 1\nnac 1\nlmd 1\ndone\nreset\npartial\npreview 1\npreview nac 1\npreview done\nload 01\nopen bench\n'
+list none.txt 'open 00 5E 77 05 21 10 00 00 6C 15\n2 3700 1192\nrest 1 1192\nwrite 2 1\nread 0 1\nnac 1\nlmd 1\ndone\nreset\npartial\npreview 1\npreview nac 1\npreview done\nestimate 3700\nload 01\nopen bench\n'
 run none.txt
-expect "no gauge: numbers" "2 14 14 14 14 14 14 14 14 14 14 14 14 14 0" "$(rows | awk '{ printf "%s%s", (NR > 1 ? " " : ""), $2 }')"
+expect "no gauge: numbers" "2 14 14 14 14 14 14 14 14 14 14 14 14 14 14 0" "$(rows | awk '{ printf "%s%s", (NR > 1 ? " " : ""), $2 }')"
 expect "no gauge: registers" "- - - - - -" "$(rows | sed '$d' | awk '{ print $3, $4, $5, $6, $7, $8 }' | sort -u)"
 expect "no gauge: then opened" "0 1024 0 CI 0 65535" "$(rows | tail -n 1 | awk '{ print $3, $4, $5, $6, $7, $8 }')"
-expect "no gauge: summary" "# 15 calls, 14 refused
+expect "no gauge: summary" "# 16 calls, 15 refused
 # refused with 2 (design capacity 0): 1, first none.txt:1
-# refused with 14 (saved bytes are no gauge): 13, first none.txt:2" "$(grep '^#' printed)"
+# refused with 14 (saved bytes are no gauge): 14, first none.txt:2" "$(grep '^#' printed)"
 
 # Several refusals over two lists: numbers ascending, each with its own first place.
 list first.txt 'open bench\n1 2599 1192\n\n1 3600 1373\n'

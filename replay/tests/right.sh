@@ -34,19 +34,25 @@ expect "normal form: numbers" "$bench_open"$'\nwindow 0 -7 1192\nrest 16875 1180
 expect "normal form: commands" "$bench_open"$'\ndone\nreset\npartial' "$(calls_of 'open bench\ndone\nreset\npartial\n')"
 expect "normal form: previews" "$bench_open"$'\npreview 0xA9\npreview 0x09\npreview nac 900\npreview lmd 65535\npreview done\npreview reset\npreview partial' \
     "$(calls_of 'open bench\npreview 169\npreview 0x9\npreview  nac 0900\n\tpreview\tlmd 65535 # look\npreview done\npreview reset\npreview partial\n')"
+expect "normal form: estimates" "$bench_open"$'\nestimate 3700\nestimate -5\nestimate 0' \
+    "$(calls_of 'open bench\nestimate 03700\n\testimate  -05 # no voltage\nestimate -0\n')"
 expect "normal form: greatest numbers" "$bench_open
 window -2147483648 2147483647 -2147483648
 rest 4294967295 2147483647
 write 0xFFFFFFFF 0xFF
 read 0xFFFFFFFF 4294967295
 nac 65535
-lmd 65535" "$(calls_of 'open bench
+lmd 65535
+estimate -2147483648
+estimate 2147483647" "$(calls_of 'open bench
 window -2147483648 2147483647 -2147483648
 rest 4294967295 2147483647
 write 4294967295 255
 read 0xffffffff 0xFFFFFFFF
 nac 65535
 lmd 65535
+estimate -2147483648
+estimate 2147483647
 ')"
 expect "c v t in the second list opens nothing" "$bench_open"$'\nwindow 2 3700 1192\nwindow 3 3700 1192' \
     "$(list second.txt 'c v t\n3 3700 1192\n'; list first.txt 'c v t\n2 3700 1192\n'; run first.txt second.txt; rows | sed 's/.*  *\(open\|window\)/\1/')"

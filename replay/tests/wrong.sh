@@ -2,7 +2,7 @@
 # Wrong lists. Each is run alone, as the second of two, and on standard input; each time the messages have to be the expected ones, with the right
 # name and line, the status 2, and nothing may be printed or saved.
 
-words='expected open, load, window, rest, write, read, preview, nac, lmd, done, reset, partial or three numbers'
+words='expected open, load, window, rest, write, read, preview, estimate, nac, lmd, done, reset, partial or three numbers'
 previews='expected a key, decimal or with 0x, nac, lmd, done, reset or partial'
 int32='expected a whole number from -2147483648 to 2147483647, decimal'
 uint32='expected a whole number from 0 to 4294967295, decimal'
@@ -41,6 +41,7 @@ wrong 'open bench\n\033[1m\0177\0303\n' "2: unknown word '\\x1B[1m\\x7F\\xC3'; $
 wrong "open bench\n$(printf '%050d' 0 | tr 0 x)\n" "2: unknown word '$(printf '%040d' 0 | tr 0 x)..'; $words"
 wrong 'open bench\npreview window 2 3700 1192\n' "2: preview of 'window'; $previews"
 wrong 'open bench\npreview preview done\n' "2: preview of 'preview'; $previews"
+wrong 'open bench\npreview estimate 3700\n' "2: preview of 'estimate'; $previews"
 wrong 'open bench\npreview A9\n' "2: preview of 'A9'; $previews"
 wrong 'open bench\npreview # nothing\n' "2: preview of ''; $previews"
 wrong '\nc v t\n2 3700 1192\n' '2: c v t after the first line; expected it only there'
@@ -61,6 +62,8 @@ wrong 'open bench\nlmd 1 2\n' '2: numbers for lmd: 2; expected 1'
 wrong 'open bench\npreview 0xA9 1\n' '2: numbers for preview: 2; expected 1'
 wrong 'open bench\npreview nac\n' '2: numbers for preview nac: 0; expected 1'
 wrong 'open bench\npreview done 0xA9\n' '2: numbers for preview done: 1; expected 0'
+wrong 'open bench\nestimate\n' '2: numbers for estimate: 0; expected 1'
+wrong 'open bench\nestimate 3700 1192\n' '2: numbers for estimate: 2; expected 1'
 wrong 'open bench\ndone 1\n' '2: numbers for done: 1; expected 0'
 wrong 'open bench\nreset now\n' '2: numbers for reset: 1; expected 0'
 wrong 'open bench\npartial 0\n' '2: numbers for partial: 1; expected 0'
@@ -87,6 +90,9 @@ wrong 'open bench\nwrite 1 A9\n' "2: BYTE of write is 'A9'; expected a whole num
 wrong 'open bench\npreview 256\n' "2: KEY of preview is '256'; expected a whole number from 0 to 255, decimal or with 0x"
 wrong 'open bench\npreview -1\n' "2: KEY of preview is '-1'; expected a whole number from 0 to 255, decimal or with 0x"
 wrong 'open bench\npreview lmd 0x10\n' "2: N of preview lmd is '0x10'; $uint16"
+wrong 'open bench\nestimate 3.7\n' "2: VOLTAGE of estimate is '3.7'; $int32"
+wrong 'open bench\nestimate 0xE74\n' "2: VOLTAGE of estimate is '0xE74'; $int32"
+wrong 'open bench\nestimate 2147483648\n' "2: VOLTAGE of estimate is '2147483648'; $int32"
 wrong 'open bench\nread -1 1\n' "2: ADDRESS of read is '-1'; $uint32 or with 0x"
 wrong 'open bench\nread 0 4294967296\n' "2: COUNT of read is '4294967296'; $uint32 or with 0x"
 wrong 'open bench\nnac 65536\n' "2: N of nac is '65536'; $uint16"
@@ -111,6 +117,7 @@ wrong '# first\nwindow 2 3700 1192\nrest 1 1192\nwrite 1 1\nread 1 1\nnac 1\nlmd
     "2: window $before" "3: rest $before" "4: write $before" "5: read $before" "6: nac $before" "7: lmd $before" "8: done $before" \
     "9: reset $before" "10: partial $before" "11: preview $before"
 wrong 'preview nac 1\nopen bench\n' "1: preview nac $before"
+wrong 'estimate 3700\nopen bench\n' "1: estimate $before"
 
 # Bytes that are no text of lines.
 crlf="ends in CR LF; expected LF alone, as by tr -d '\\r'"

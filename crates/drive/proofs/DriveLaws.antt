@@ -6,6 +6,7 @@ use mathlib.Core.Path.{_≡_, refl}
 use Prim.Native.Nat.{ℕ}
 use lib.Dec.{eqb}
 use lib.ListN.{length}
+use Rattle.form.specs.Form.{newest}
 use Rattle.gauge.specs.Answer.{answered}
 use Rattle.gauge.specs.Calls.{restAnswer, windowAnswer, writeAnswer}
 use Rattle.gauge.specs.Opening.{openRefusal, opened}
@@ -18,10 +19,9 @@ use Rattle.history.specs.Call as Call
 use Rattle.history.specs.Call.{Call}
 use Rattle.history.proofs.ListLaws.{opened-answer, opened-taken}
 use Rattle.history.proofs.StayLaws.{stays-accepted}
+use Rattle.load.specs.Load.{answerIn}
 use Rattle.refusals.specs.Refusal as Refusal
 use Rattle.refusals.proofs.OrElseLaws.{first-none}
-use Rattle.saved.specs.Form.{newest}
-use Rattle.saved.specs.Load.{answerIn}
 use Rattle.saved.specs.Save.{lengthRefusal, savedBytes}
 use Rattle.saved.proofs.RoundTripLaws.{load-of-saved}
 use Rattle.drive.specs.Claim.{EveryDrive, Holds}
@@ -56,6 +56,7 @@ module _ (g : Gauge) (k : Taken g) where
   step-bytes (Call.write address value) = call-bytes g _ _ (writeCall address (value .number)) (loads g k) refl
   step-bytes (Call.read address count place replyLength) = refl
   step-bytes (Call.preview key replyLength) = refl
+  step-bytes (Call.estimate v) = refl
 
   pub step-numbers : (call : Call) → calledNumber call (savedBytes g) ≡ numberOf call g
   unfolding calledNumber numberOf lookNumber
@@ -64,6 +65,7 @@ module _ (g : Gauge) (k : Taken g) where
   step-numbers (Call.write address value) = call-number g (writeCall address (value .number)) (loads g k)
   step-numbers (Call.read address count place replyLength) = rw (loads g k)
   step-numbers (Call.preview key replyLength) = rw (loads g k)
+  step-numbers (Call.estimate v) = rw (loads g k)
 
 -- ---- every list
 

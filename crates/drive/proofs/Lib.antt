@@ -1,4 +1,5 @@
 pub mod DriveLaws
+pub mod EstimateLaws
 pub mod HistoryLaws
 pub mod OlderFormsLaws
 pub mod PreviewLaws

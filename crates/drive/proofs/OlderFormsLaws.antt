@@ -1,26 +1,33 @@
 -- Bytes of an older form load as its fields say. Assumes nothing.
+use mathlib.Core.List.{List}
 use mathlib.Core.Path.{_≡_, sym, ap, _∙_}
-use lib.ListN.{getD}
-use Rattle.gauge.specs.declared.answer.Answer.{Answer}
+use Prim.Native.Nat.{ℕ}
+use Rattle.form.specs.Form.{formNumbered, formOf, older}
 use Rattle.gauge.specs.declared.state.Gauge.{Gauge}
+use Rattle.load.specs.EveryForm.{loadAnswer}
+use Rattle.load.specs.Load.{loaded, loadedCharge, loadedCounters, loadedHost, loadedSample}
+use Rattle.load.proofs.LoadLaws.{loads}
 use Rattle.numbers.specs.Little.{numberAt}
+use Rattle.numbers.proofs.LittleLaws.{one-is}
+use Rattle.refusals.specs.Refusal as Refusal
 use Rattle.registers.specs.Values.{si}
-use Rattle.saved.specs.EveryForm.{loadAnswer}
-use Rattle.saved.specs.Form.{form1}
-use Rattle.saved.specs.Load.{answerIn, loaded, loadedCharge, loadedHost, loadedSample}
-use Rattle.saved.proofs.EveryFormLaws.{in-form-1}
-use Rattle.saved.proofs.FormLaws.{one-is}
-use Rattle.saved.proofs.LoadLaws.{loads}
 use Rattle.standby.proofs.ShownLaws.{shown-whole}
-use Rattle.drive.specs.OlderForms.{Form1Reads, Form1Shows}
+use Rattle.drive.specs.OlderForms.{Form1Reads, Form1Shows, Form2Reads}
+
+-- the gauge of accepted bytes, by the form of their first byte
+read-in : (bytes : List ℕ) (n : ℕ) → numberAt 1 0 bytes ≡ n → (loadAnswer bytes) .number ≡ Refusal.none
+    → (loadAnswer bytes) .gauge ≡ loaded (formNumbered n older) bytes
+unfolding loadAnswer
+read-in bytes n e z =
+    loads (formOf bytes) bytes z .gauge ∙ ap (λ (k : ℕ). loaded (formNumbered k older) bytes) (sym (one-is 0 bytes) ∙ e)
 
 pub form-1-reads : Form1Reads
-unfolding loaded loadedCharge loadedSample loadedHost
-form-1-reads bytes e n =
-    let first : getD bytes 0 0 ≡ 1 = sym (one-is 0 bytes) ∙ e in
-    let is : loadAnswer bytes ≡ answerIn form1 bytes = sym (in-form-1 bytes first) in
-    let l = loads form1 bytes (ap (λ (x : Answer). x .number) (sym is) ∙ n) in
-    ap (λ (x : Answer). x .gauge) is ∙ l .gauge
+unfolding loaded loadedCharge loadedSample loadedHost loadedCounters
+form-1-reads bytes e z = read-in bytes 1 e z
+
+pub form-2-reads : Form2Reads
+unfolding loaded loadedCharge loadedSample loadedHost loadedCounters
+form-2-reads bytes e z = read-in bytes 2 e z
 
 pub form-1-shows : Form1Shows
 form-1-shows bytes e n = ap (λ (g : Gauge). si g) (form-1-reads bytes e n) ∙ shown-whole (numberAt 2 29 bytes)

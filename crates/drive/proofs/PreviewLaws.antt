@@ -7,17 +7,17 @@ use lib.Dec.{eqb}
 use lib.ListN.{getD, length}
 use borrow.Author.Tests.{eqb-false, eqb-true}
 use Rattle.command.specs.Command.{commandOf, decide}
+use Rattle.form.specs.Form.{Ar, Mode, newest, numberOf}
 use Rattle.gauge.specs.declared.state.Gauge.{Gauge}
 use Rattle.handset.specs.Calls.{callBytes, callNumber, lookNumber, previewCommand, previewNumber, previewReply, readReply, writeCall}
 use Rattle.handset.proofs.PreviewLaws.{key-refused, previewed, reply-refused}
+use Rattle.load.specs.Load.{answerIn, decodedGauge, loaded, loadedHost}
+use Rattle.load.proofs.LoadLaws.{decoded-is, loads}
 use Rattle.preview.specs.Preview.{onCopy, previewRefusal, wholeReplyRefusal}
 use Rattle.refusals.specs.Refusal as Refusal
 use Rattle.refusals.specs.Refusal.{orElse}
 use Rattle.refusals.proofs.OrElseLaws.{first-none, in-a-row}
 use Rattle.registers.specs.Map.{registerCount}
-use Rattle.saved.specs.Form.{Ar, Mode, newest, numberOf}
-use Rattle.saved.specs.Load.{answerIn, decodedGauge, loaded, loadedHost}
-use Rattle.saved.proofs.LoadLaws.{decoded-is, loads}
 use Rattle.drive.specs.Preview.{PreviewOfCopy}
 
 number-is : (saved : List ℕ) (key : ℕ) (reply : List ℕ)

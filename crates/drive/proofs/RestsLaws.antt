@@ -8,6 +8,7 @@ use lib.Dec.{eqb}
 use lib.IntN.{ℤ}
 use lib.ListN.{replicate}
 use borrow.Author.Tests.{eqb-true}
+use Rattle.form.specs.Form.{newest}
 use Rattle.gauge.specs.Calls.{restInRange}
 use Rattle.gauge.specs.Fits.{Taken}
 use Rattle.gauge.specs.declared.state.Gauge.{Gauge}
@@ -17,9 +18,8 @@ use Rattle.history.specs.Call as Call
 use Rattle.history.specs.Call.{Call}
 use Rattle.history.specs.Rests.{OneByOne}
 use Rattle.history.proofs.RestsLaws.{nothing-moves, rests-of-one}
+use Rattle.load.specs.Load.{answerIn, loaded}
 use Rattle.refusals.specs.Refusal as Refusal
-use Rattle.saved.specs.Form.{newest}
-use Rattle.saved.specs.Load.{answerIn, loaded}
 use Rattle.saved.specs.Save.{savedBytes}
 use Rattle.drive.specs.Drive.{bytesAfter, calledBytes, calledNumber}
 use Rattle.drive.specs.Rests.{RestCallsOfOne}

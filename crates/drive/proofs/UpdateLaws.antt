@@ -5,6 +5,7 @@ use mathlib.Core.Path.{_≡_, refl, ap, _∙_}
 use Prim.Native.Nat.{ℕ, _<_}
 use lib.ListN.{getD, length, replicate}
 use borrow.Author.Tests.{eq-eqb}
+use Rattle.form.specs.Form.{formOf, newest, savedLength}
 use Rattle.gauge.specs.Fits.{Taken}
 use Rattle.gauge.specs.declared.state.Gauge.{Gauge}
 use Rattle.handset.specs.Calls.{convertBytes, convertNumber}
@@ -13,20 +14,20 @@ use Rattle.history.specs.Claim.{begun}
 use Rattle.history.specs.History.{afterCalls}
 use Rattle.history.proofs.ListLaws.{from-any-gauge}
 use Rattle.history.proofs.StayLaws.{stays-accepted}
+use Rattle.load.specs.EveryForm.{loadAnswer}
+use Rattle.load.specs.Load.{answerIn, loaded}
+use Rattle.load.proofs.LoadLaws.{accepted-loads, loads}
+use Rattle.load.proofs.TakenLaws.{form-taken}
 use Rattle.refusals.specs.Refusal as Refusal
 use Rattle.refusals.proofs.OrElseLaws.{first-none}
-use Rattle.saved.specs.EveryForm.{loadAnswer}
-use Rattle.saved.specs.Form.{formOf, newest, savedLength}
-use Rattle.saved.specs.Load.{answerIn, loaded}
 use Rattle.saved.specs.Save.{lengthRefusal, savedBytes}
-use Rattle.saved.proofs.EveryFormLaws.{newest-loads}
-use Rattle.saved.proofs.LoadLaws.{accepted-loads, loads}
+use Rattle.saved.proofs.RoundTripLaws.{newest-loads}
 use Rattle.drive.specs.Claim.{HoldsHistory}
 use Rattle.drive.specs.Update.{Converted, ConvertedSame, FromUpdate, Step, bytesAfterSteps, callsOf, make, start, stepBytes}
 use Rattle.drive.proofs.DriveLaws as Drive
 use Rattle.drive.proofs.DriveLaws.{list-taken, step-bytes}
 use Rattle.drive.proofs.HistoryLaws.{gauge-holds}
-use Rattle.drive.proofs.SavedLaws.{every-form, load-taken, same-bytes}
+use Rattle.drive.proofs.SavedLaws.{begun-in, load-taken, same-bytes}
 
 -- ---- accepted old bytes
 
@@ -41,7 +42,7 @@ module _ (old buffer : List ℕ) (small : (k : ℕ) → getD old k 0 < 256) (e :
 
   old-taken : Taken (loaded (formOf old) old)
   unfolding loadAnswer
-  old-taken = every-form old .taken old small (loads (formOf old) old old-loads .accepted)
+  old-taken = form-taken old small (loads (formOf old) old old-loads .accepted)
 
   bytes-are : convertBytes old buffer ≡ savedBytes (loaded (formOf old) old)
   unfolding convertBytes
@@ -94,4 +95,4 @@ steps-hold steps g k =
 pub from-update : FromUpdate
 from-update old buffer small e steps =
     let h = steps-hold steps (loaded (formOf old) old) (old-taken old buffer small e) in
-    rw (bytes-are old buffer small e, ← every-form old .begun old) h
+    rw (bytes-are old buffer small e, ← begun-in (formOf old) old) h

@@ -2,24 +2,29 @@
 -- nothing.
 use mathlib.Core.List.{List}
 use mathlib.Core.Path.{_≡_}
-use Prim.Native.Nat.{ℕ, _<_}
-use lib.IntN.{pos}
+use Prim.Native.Nat.{ℕ, _/_, _<_}
+use lib.IntN.{ℤ, pos}
 use lib.ListN.{getD, length}
+use Rattle.estimate.specs.Estimate.{distanceFrom, estimated}
+use Rattle.flags.specs.Byte.{vdqOf}
+use Rattle.form.specs.Form.{Ar, Configuration, Dcr, Flags, Form, Held, Lmd, Mode, Rests, bytesOf, newest, numberOf}
 use Rattle.gauge.specs.Opening.{openAnswer}
 use Rattle.gauge.specs.declared.state.Gauge.{Gauge}
 use Rattle.grains.specs.declared.run.Run.{Run}
-use Rattle.flags.specs.Byte.{vdqOf}
-use Rattle.handset.specs.Calls.{openBytes, openNumber}
+use Rattle.handset.specs.Calls.{estimateCounts, estimateDistance, estimateNumber, openBytes, openNumber}
 use Rattle.history.specs.Account.{fixing}
 use Rattle.history.specs.After as Gauges
 use Rattle.history.specs.Call.{Call}
 use Rattle.history.specs.Claim.{drainOf, runOf}
-use Rattle.history.specs.History.{History, afterCalls, openedHistory}
+use Rattle.history.specs.Counts.{restCount}
+use Rattle.history.specs.History.{afterCalls, openedHistory}
+use Rattle.history.specs.Kept.{History}
 use Rattle.history.specs.Refused.{refusalOf}
-use Rattle.history.specs.Sums.{chargeOf}
+use Rattle.history.specs.Sums.{chargeOf, grainsACount}
+use Rattle.load.specs.Load.{answerIn}
+use Rattle.numbers.specs.Signed.{atLeastZero}
+use Rattle.permille.specs.Table.{permille}
 use Rattle.refusals.specs.Refusal as Refusal
-use Rattle.saved.specs.Form.{Ar, Configuration, Dcr, Flags, Form, Held, Lmd, Mode, bytesOf, newest, numberOf}
-use Rattle.saved.specs.Load.{answerIn}
 use Rattle.saved.specs.Save.{savedBytes}
 use Rattle.drive.specs.Drive.{bytesAfter, calledNumber}
 
@@ -42,6 +47,14 @@ EveryDrive =
 abbrev pub runAt : Form → List ℕ → Run
 runAt form bytes = record { vdq = vdqOf (numberOf Flags form bytes); dcr = numberOf Dcr form bytes }
 
+-- "floor(permille × LMD / 1,000)" of the history's L
+abbrev pub partOfLearned : ℤ → History → ℕ
+partOfLearned v x = estimated (permille v) (x .account .learned)
+
+-- floor(H / G)
+abbrev pub countsHeld : History → ℕ
+countsHeld x = atLeastZero (chargeOf (x .account .sums)) / grainsACount
+
 pub record HoldsHistory (saved : List ℕ) (x : History) : Type 0 where
   -- "h equals H"
   pub held : pos (numberOf Held newest saved) ≡ chargeOf (x .account .sums)
@@ -49,8 +62,13 @@ pub record HoldsHistory (saved : List ℕ) (x : History) : Type 0 where
   pub lmd : numberOf Lmd newest saved ≡ x .account .learned
   -- "VDQ is set exactly during a run, and DCR equals R, 0 without a run"
   pub run : runAt newest saved ≡ runOf (x .account .run)
+  -- the count of rest windows (A4 of paper 02)
+  pub rests : numberOf Rests newest saved ≡ restCount (x .counts)
   -- "A call is refused exactly where the numbers below say so"; none of them is 14
-  pub numbers : (call : Call) → calledNumber call saved ≡ refusalOf call (x .host)
+  pub numbers : (call : Call) → calledNumber call saved ≡ refusalOf call x
+  -- an estimate that is not refused is a part of L, and its distance is from floor(H / G) (A4 of paper 02)
+  pub estimate : (v : ℤ) (before : ℕ) → estimateNumber saved v ≡ Refusal.none → estimateCounts saved v before ≡ partOfLearned v x
+  pub distance : (v before : ℤ) → estimateNumber saved v ≡ Refusal.none → estimateDistance saved v before ≡ distanceFrom (countsHeld x) (partOfLearned v x)
 
 -- demand 3 from C: opening, then every list of calls
 abbrev pub FromOpening : Type 0
@@ -58,13 +76,15 @@ FromOpening =
     (configuration buffer : List ℕ) → ((k : ℕ) → getD configuration k 0 < 256) → openNumber configuration (length buffer) ≡ Refusal.none
     → (calls : List Call) → HoldsHistory (bytesAfter calls (openBytes configuration buffer)) (afterCalls calls (openedHistory configuration))
 
--- the history begun at what bytes of a form hold: their h is the last fixing point, and nothing is summed yet
+-- the history begun at what bytes of a form hold: their h is the last fixing point, and nothing is summed yet; their count of rest windows goes on,
+-- 0 in a form that has none
 abbrev pub begunIn : Form → List ℕ → History
 begunIn form bytes =
     record {
       configuration = bytesOf Configuration form bytes;
       account = fixing (numberOf Held form bytes) (numberOf Lmd form bytes) (drainOf (runAt form bytes));
       host = record { mode = numberOf Mode form bytes; ar = numberOf Ar form bytes };
+      counts = record { rests = numberOf Rests form bytes };
     }
 
 -- demand 3 from any bytes of the newest form that are accepted, for the history begun at what they hold: a handset that was switched off or

@@ -4,16 +4,17 @@ use mathlib.Core.List.{List}
 use mathlib.Core.Path.{_≡_}
 use Prim.Native.Nat.{ℕ, _*_}
 use Rattle.flags.specs.Byte.{flagsOf, vdqOf}
+use Rattle.form.specs.Signed.{currentOf}
 use Rattle.gauge.specs.declared.state.Gauge.{Gauge}
+use Rattle.load.specs.EveryForm.{loadAnswer}
 use Rattle.numbers.specs.Little.{bytesAt, numberAt}
 use Rattle.refusals.specs.Refusal as Refusal
 use Rattle.registers.specs.Values.{si}
-use Rattle.saved.specs.EveryForm.{loadAnswer}
-use Rattle.saved.specs.Signed.{currentOf}
 
--- form 1, in the order of paper 01: configuration; h and DCR; LMD, SI, c, VOLT, TEMP, AR; MODE; FLAGS. SI is "multiplied by 16" (A1)
-abbrev pub gaugeOfForm1 : List ℕ → Gauge
-gaugeOfForm1 bytes =
+-- the 41 bytes of forms 1 and 2, in the order of paper 01: configuration; h and DCR; LMD, SI, c, VOLT, TEMP, AR; MODE; FLAGS. The count of rest
+-- windows reads "as 0" (A4)
+abbrev pub gaugeOf41 : List ℕ → ℕ → Gauge
+gaugeOf41 bytes si =
     record {
       configuration = bytesAt 10 1 bytes;
       charge = record {
@@ -22,13 +23,23 @@ gaugeOfForm1 bytes =
         run = record { vdq = vdqOf (numberAt 1 40 bytes); dcr = numberAt 8 19 bytes };
       };
       sample = record { current = currentOf (numberAt 2 31 bytes); voltage = numberAt 2 33 bytes; temperature = numberAt 2 35 bytes };
-      standby = 16 * numberAt 2 29 bytes;
+      standby = si;
       flags = flagsOf (numberAt 1 40 bytes);
       host = record { mode = numberAt 1 39 bytes; ar = numberAt 2 37 bytes };
+      counters = record { rests = 0 };
     }
 
+-- bytes whose first byte is a form's number and that are accepted hold a gauge
+abbrev pub ReadsAs : ℕ → (List ℕ → Gauge) → Type 0
+ReadsAs form gauge = (bytes : List ℕ) → numberAt 1 0 bytes ≡ form → (loadAnswer bytes) .number ≡ Refusal.none → (loadAnswer bytes) .gauge ≡ gauge bytes
+
+-- form 1: SI "multiplied by 16" (A1)
 abbrev pub Form1Reads : Type 0
-Form1Reads = (bytes : List ℕ) → numberAt 1 0 bytes ≡ 1 → (loadAnswer bytes) .number ≡ Refusal.none → (loadAnswer bytes) .gauge ≡ gaugeOfForm1 bytes
+Form1Reads = ReadsAs 1 (λ bytes. gaugeOf41 bytes (16 * numberAt 2 29 bytes))
+
+-- form 2: SI "with the sixteenths .. in the same two bytes" (A1)
+abbrev pub Form2Reads : Type 0
+Form2Reads = ReadsAs 2 (λ bytes. gaugeOf41 bytes (numberAt 2 29 bytes))
 
 -- and SI shows what form 1 held, until a light load moves it
 abbrev pub Form1Shows : Type 0

@@ -7,12 +7,12 @@ use Prim.Native.Nat.{ℕ, _<_}
 use lib.Dec.{eqb}
 use lib.ListN.{getD, length}
 use Rattle.command.specs.Command.{commandOf, decide}
+use Rattle.form.specs.Form.{Ar, Mode, newest, numberOf}
 use Rattle.handset.specs.Calls.{callBytes, callNumber, previewCommand, previewNumber, previewReply, readReply, writeCall}
 use Rattle.preview.specs.Preview.{wholeReplyRefusal}
 use Rattle.refusals.specs.Refusal as Refusal
 use Rattle.refusals.specs.Refusal.{orElse}
 use Rattle.registers.specs.Map.{registerCount}
-use Rattle.saved.specs.Form.{Ar, Mode, newest, numberOf}
 
 pub record WrittenThenRead (saved : List ℕ) (key : ℕ) (reply : List ℕ) : Type 0 where
   -- the number of the write, then 13

@@ -1,13 +1,13 @@
--- The forms of the saved bytes at their limits, A1 of paper 02: each row worked out by hand. Definitions only; assumes nothing.
+-- The forms of the saved bytes at their limits, A1 and A4 of paper 02: each row worked out by hand. Definitions only; assumes nothing.
 use mathlib.Core.List.{List, [], _∷_, _++_}
 use mathlib.Core.Path.{_≡_}
 use Prim.Native.Nat.{ℕ}
 use lib.ListN.{length, replicate, set}
 use Rattle.configuration.specs.BenchPack.{benchPack}
+use Rattle.form.specs.Form.{newest}
+use Rattle.load.specs.EveryForm.{loadAnswer}
+use Rattle.load.specs.Load.{answerIn}
 use Rattle.numbers.specs.Little.{little}
-use Rattle.saved.specs.EveryForm.{loadAnswer}
-use Rattle.saved.specs.Form.{newest}
-use Rattle.saved.specs.Load.{answerIn}
 use Rattle.saved.specs.Save.{savedBytes}
 
 -- the 41 bytes of the bench pack with another ISLC, as opened but for SI: form; configuration; h, DCR 0; LMD 1,024; SI; c, VOLT, TEMP, AR 0; MODE
@@ -15,6 +15,10 @@ use Rattle.saved.specs.Save.{savedBytes}
 abbrev pub savedAs : ℕ → ℕ → ℕ → List ℕ
 savedAs form islc standby =
     form ∷ (set benchPack 3 islc ++ (replicate 16 0 ++ (0x00 ∷ 0x04 ∷ (little 2 standby ++ (replicate 8 0 ++ (0x44 ∷ 0x10 ∷ []))))))
+
+-- the same with the count of rest windows, form 3
+abbrev pub savedCounting : ℕ → ℕ → List ℕ
+savedCounting form rests = savedAs form 5 160 ++ little 2 rests
 
 pub record FormRows : Type 0 where
   pub length-41 : length (savedAs 1 5 10) ≡ 41
@@ -31,11 +35,23 @@ pub record FormRows : Type 0 where
   -- form 2 holds sixteenths: 320 is read as it is, 321 is 14
   pub form-2-most : (loadAnswer (savedAs 2 5 320)) .gauge .standby ≡ 320
   pub form-2-above : (loadAnswer (savedAs 2 5 321)) .number ≡ 14
-  -- there is no form 0 and no form 3
+  -- form 3 has 43 bytes, and every count is accepted
+  pub length-43 : length (savedCounting 3 422) ≡ 43
+  pub form-3-read : (loadAnswer (savedCounting 3 422)) .gauge .counters .rests ≡ 422
+  pub form-3-most : (loadAnswer (savedCounting 3 65_535)) .gauge .counters .rests ≡ 65_535
+  pub form-3-taken : (loadAnswer (savedCounting 3 65_535)) .number ≡ 0
+  pub form-3-short : (loadAnswer (savedAs 3 5 160)) .number ≡ 14
+  -- forms 1 and 2 have no count and read as 0; with two bytes more they are 14
+  pub form-1-rests : (loadAnswer (savedAs 1 5 10)) .gauge .counters .rests ≡ 0
+  pub form-2-rests : (loadAnswer (savedAs 2 5 160)) .gauge .counters .rests ≡ 0
+  pub form-2-long : (loadAnswer (savedCounting 2 422)) .number ≡ 14
+  -- there is no form 0 and no form 4
   pub form-0 : (loadAnswer (savedAs 0 5 10)) .number ≡ 14
-  pub form-3 : (loadAnswer (savedAs 3 5 10)) .number ≡ 14
+  pub form-4 : (loadAnswer (savedCounting 4 422)) .number ≡ 14
   -- the newest form alone is taken by the calls from C
-  pub taken-2 : (answerIn newest (savedAs 2 5 160)) .number ≡ 0
+  pub taken-3 : (answerIn newest (savedCounting 3 422)) .number ≡ 0
+  pub taken-2 : (answerIn newest (savedAs 2 5 160)) .number ≡ 14
   pub taken-1 : (answerIn newest (savedAs 1 5 10)) .number ≡ 14
-  -- what form 1 is read as is saved as form 2
-  pub saved-2 : savedBytes ((loadAnswer (savedAs 1 5 10)) .gauge) ≡ savedAs 2 5 160
+  -- what forms 1 and 2 are read as is saved as form 3
+  pub saved-1 : savedBytes ((loadAnswer (savedAs 1 5 10)) .gauge) ≡ savedCounting 3 0
+  pub saved-2 : savedBytes ((loadAnswer (savedAs 2 5 160)) .gauge) ≡ savedCounting 3 0

@@ -1,4 +1,5 @@
 pub mod Bench
+pub mod EstimateRows
 pub mod Examples
 pub mod FormRows
 pub mod Numbers

@@ -18,7 +18,7 @@ abbrev withoutAr : ℕ → Gauge
 withoutAr mode = (writeAnswer lineThree 1 mode) .gauge
 
 -- SI above 32 × S0, which 14 refuses
-abbrev rejected : Gauge
+abbrev pub rejected : Gauge
 rejected =
     record {
       configuration = lineThree .configuration;
@@ -27,6 +27,7 @@ rejected =
       standby = 65_535;
       flags = lineThree .flags;
       host = lineThree .host;
+      counters = lineThree .counters;
     }
 
 -- the command's number where 99 stood before

@@ -23,7 +23,7 @@ threeCounts over below = record { held = grainsOfCounts 3 + over; lmd = 1_024; r
 abbrev full : Gauge → Gauge
 full g = (writeAnswer ((writeAnswer g 1 0x10) .gauge) 0 0xA9) .gauge
 
-abbrev benchFull : Gauge
+abbrev pub benchFull : Gauge
 benchFull = full ((openAnswer benchPack) .gauge)
 
 -- ILMD 255, and SD 15 in the low four bits of DMFSD

@@ -1,5 +1,6 @@
 // Computed rows: what the request marks to be proved, its table's examples, and rules that none of those pins. The functions do nothing;
 // their contracts keep the claims in the check.
+ghost use Rattle.examples.specs.EstimateRows.{EstimateRows};
 ghost use Rattle.examples.specs.Examples.{Examples};
 ghost use Rattle.examples.specs.FormRows.{FormRows};
 ghost use Rattle.examples.specs.Numbers.{Numbers};
@@ -34,4 +35,8 @@ pub fn proved_previews()
 
 pub fn proved_rests()
     ensures { λ _. ⌜ RestRows ⌝ }
+{}
+
+pub fn proved_estimates()
+    ensures { λ _. ⌜ EstimateRows ⌝ }
 {}

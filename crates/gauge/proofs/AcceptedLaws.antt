@@ -1,10 +1,13 @@
 -- What acceptance says of a gauge as facts about its parts, both ways. Assumes nothing.
 use mathlib.Core.Bool.{Bool, true, false, not, _&&_}
 use mathlib.Core.Path.{_≡_}
+use Prim.Native.Nat.{ℕ, _≤_}
+use native.Mathlib.Omega.{arith}
 use lib.Dec.{eqb}
 use Rattle.charge.specs.Charge.{chargeAccepted}
 use Rattle.charge.proofs.ChargeLaws.{ChargeSound, charge-accepted, charge-sound}
 use Rattle.configuration.specs.Configuration.{dmf, ilmd, s0}
+use Rattle.grains.specs.Grains.{grainsOfCounts, nac}
 use Rattle.numbers.proofs.BoolLaws.{and-left, and-right, and-both}
 use Rattle.sample.specs.Sample.{sampleAccepted}
 use Rattle.standby.specs.Standby.{standbyAccepted}
@@ -49,6 +52,13 @@ module _ (g : Gauge) where
       and-both opens (charged && (stands && sampled)) (s .ilmd)
       (and-both charged (stands && sampled) (charge-accepted (g .charge) (s .charge))
       (and-both stands sampled (s .standby) (sample-accepted (dmf (g .configuration)) (g .sample) (s .sample))))
+
+  -- the charge held is at most LMD counts
+  pub nac-within : accepted g ≡ true → nac (g .charge .held) ≤ g .charge .lmd
+  nac-within e = nac-below (g .charge .held) (g .charge .lmd) (sound e .charge .within)
+    where
+      nac-below : (h l : ℕ) → h ≤ grainsOfCounts l → nac h ≤ l
+      nac-below h l p = omega arith
 
   -- ---- the four tests, in their order
 

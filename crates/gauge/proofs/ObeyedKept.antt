@@ -15,6 +15,7 @@ use Rattle.command.specs.declared.command.Decision.the-variants.{Obey, Refused}
 use Rattle.command.proofs.DecisionLaws.{wrtlmd-above}
 use Rattle.configuration.specs.Configuration.{dmf, ilmd, s0}
 use Rattle.configuration.specs.Terms.{termsOf}
+use Rattle.counters.proofs.CountersKept as Counters
 use Rattle.refusals.specs.Refusal as Refusal
 use Rattle.refusals.proofs.OrElseLaws.{not-rejected}
 use Rattle.host.proofs.HostKept.{obeyed-fits}
@@ -69,6 +70,7 @@ module _ (g : Gauge) (s : Standing g) where
         sound = obeyed-sound g (s .sound) command above;
         lmd = command-lmd command (termsOf c) (g .host .ar) (g .charge) (s .lmd) (omega arith) (omega arith);
         host = obeyed-fits command c (g .host) (s .host);
+        counters = Counters.obeyed-fits (g .counters) (s .counters) command;
       }
 
   pub decided-stands : (d : Decision) → (d ≡ Obey Wrtlmd → 0 < g .host .ar) → Standing (decided d g)

@@ -5,6 +5,7 @@ use Prim.Native.Nat.{ℕ, _*_, _≤_}
 use native.Mathlib.Omega.{arith}
 use borrow.Author.Tests.{leb-true}
 use Rattle.configuration.specs.Configuration.{dmf, s0, sd}
+use Rattle.counters.specs.Fits.{CountersFit}
 use Rattle.grains.specs.Leak.{leakRate}
 use Rattle.grains.proofs.LeakLaws.{leak-rate-within}
 use Rattle.sample.specs.Limits.{leastTemperature, leastVoltage, mostTemperature, mostVoltage}
@@ -21,6 +22,7 @@ pub record Standing (g : Gauge) : Type 0 where
   pub sound : Sound g
   pub lmd : g .charge .lmd ≤ 65_535
   pub host : HostFits (g .host)
+  pub counters : CountersFit (g .counters)
 
 module _ (g : Gauge) where
   pub standing : Taken g → Standing g
@@ -32,6 +34,7 @@ module _ (g : Gauge) where
         sound = sound g (k .accepted);
         lmd = omega arith;
         host = record { mode = k .fits .mode; ar = omega arith };
+        counters = k .fits .counters;
       }
 
   pub taken : Standing g → Taken g
@@ -56,6 +59,7 @@ module _ (g : Gauge) where
               value-fits leastTemperature mostTemperature (g .sample .temperature) (omega arith) (s .sound .sample .temperature);
           ar = omega arith;
           mode = s .host .mode;
+          counters = s .counters;
         };
         accepted = sound-accepted g (s .sound);
       }

@@ -5,6 +5,8 @@ use Prim.Native.Nat.{ℕ}
 use Rattle.charge.specs.declared.charge.Charge.{Charge}
 use Rattle.configuration.specs.Configuration.{s0}
 use Rattle.configuration.specs.Terms.{termsOf}
+use Rattle.counters.specs.Counters.{countersMoved}
+use Rattle.counters.specs.declared.counters.Counters.{Counters}
 use Rattle.flags.specs.Flags.{clearedIf}
 use Rattle.flags.specs.declared.flags.Flags.{Flags}
 use Rattle.host.specs.Host.{fullIf}
@@ -16,9 +18,10 @@ use Rattle.reached.specs.declared.ending.Ending.{Ending}
 use Rattle.sample.specs.Current.{discharge}
 use Rattle.standby.specs.Standby.{averaged}
 use Rattle.sample.specs.declared.current.Current.{Current}
+use Rattle.gauge.specs.Parts.{gaugeOf}
 use Rattle.gauge.specs.Window.{reachedIn, summed, window}
 use Rattle.gauge.specs.declared.state.Gauge.{Gauge}
-use Rattle.gauge.proofs.GaugeLaws.{gauge-is, gaugeWith}
+use Rattle.gauge.proofs.GaugeLaws.{gauge-is}
 
 module _ (c : Current) (v t : ℕ) (g : Gauge) where
   full : Bool
@@ -28,14 +31,14 @@ module _ (c : Current) (v t : ℕ) (g : Gauge) where
   ending = endingOf (termsOf (g .configuration)) ((summed c t g) .run .vdq) (discharge c) v t
 
   -- what each callee gives, in their order
-  pub stepped-is : {x y z : Charge} {b : Bool} {d i k : ℕ} {e : Ending} {f j : Flags} {h : Host}
+  pub stepped-is : {x y z : Charge} {b : Bool} {d i k : ℕ} {e : Ending} {f j : Flags} {h : Host} {m : Counters}
       → x ≡ summed c t g → b ≡ isFull (termsOf (g .configuration)) c v (x .held) (x .lmd) → d ≡ discharge c
       → e ≡ endingOf (termsOf (g .configuration)) (x .run .vdq) d v t → y ≡ filledIf b x → z ≡ chargeEnded e y
       → f ≡ clearedIf (c .charging) (g .flags) → j ≡ flagsEnded e f → h ≡ fullIf b (g .host)
-      → k ≡ discharge c → i ≡ averaged (s0 (g .configuration)) (g .standby) k
-      → gaugeWith (g .configuration) z (record { current = c; voltage = v; temperature = t }) i j h ≡ window c v t g
+      → k ≡ discharge c → i ≡ averaged (s0 (g .configuration)) (g .standby) k → m ≡ countersMoved c (g .counters)
+      → gaugeOf (g .configuration) z (record { current = c; voltage = v; temperature = t }) i j h m ≡ window c v t g
   unfolding window reachedIn reachedBy chargeReached full ending
-  stepped-is {x} {y} {z} {b} {d} {i} {k} {e} {f} {j} {h} px pb pd pe py pz pf pj ph pk pi =
+  stepped-is {x} {y} {z} {b} {d} {i} {k} {e} {f} {j} {h} px pb pd pe py pz pf pj ph pk pi pm =
       let qb : b ≡ full = pb ∙ ap (λ (w : Charge). isFull (termsOf (g .configuration)) c v (w .held) (w .lmd)) px in
       let qe : e ≡ ending =
       pe ∙ ap (λ (m : ℕ). endingOf (termsOf (g .configuration)) (x .run .vdq) m v t) pd
@@ -45,4 +48,4 @@ module _ (c : Current) (v t : ℕ) (g : Gauge) where
       let qj : j ≡ flagsEnded ending (clearedIf (c .charging) (g .flags)) = pj ∙ ap (λ (s : Ending). flagsEnded s f) qe ∙ ap (flagsEnded ending) pf in
       let qh : h ≡ fullIf full (g .host) = ph ∙ ap (λ (s : Bool). fullIf s (g .host)) qb in
       let qi : i ≡ averaged (s0 (g .configuration)) (g .standby) (discharge c) = pi ∙ ap (averaged (s0 (g .configuration)) (g .standby)) pk in
-      gauge-is qz refl qi qj qh
+      gauge-is qz refl qi qj qh pm

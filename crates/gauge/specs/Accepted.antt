@@ -1,5 +1,6 @@
 -- "Saved gauge" of paper 01: what makes a gauge value accepted; one that breaks a condition is refused with 14.
--- IAV = |c| and "other flag bits 0" hold by the gauge's form, as do the widths. Definitions only; assumes nothing.
+-- IAV = |c| and "other flag bits 0" hold by the gauge's form, as do the widths; the count of rest windows (A4 of paper 02) is every number
+-- of its two bytes. Definitions only; assumes nothing.
 use mathlib.Core.Bool.{Bool, not, _&&_}
 use lib.Dec.{eqb}
 use Rattle.charge.specs.Charge.{chargeAccepted}

@@ -54,6 +54,7 @@ storedAt address value g =
       standby = g .standby;
       flags = g .flags;
       host = stored address value (g .host);
+      counters = g .counters;
     }
 
 -- "one byte at 0x01 MODE, 0x02 or 0x03 AR .. or 0x00 CTRL"

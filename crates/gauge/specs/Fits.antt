@@ -5,6 +5,7 @@ use mathlib.Core.List.{List}
 use mathlib.Core.Path.{_≡_}
 use Prim.Native.Nat.{ℕ, _<_, _^_}
 use lib.ListN.{getD, length}
+use Rattle.counters.specs.Fits.{CountersFit}
 use Rattle.gauge.specs.Accepted.{accepted}
 use Rattle.gauge.specs.declared.state.Gauge.{Gauge}
 
@@ -27,6 +28,7 @@ pub record Fits (g : Gauge) : Type 0 where
   pub ar : g .host .ar < 256 ^ 2
   -- "MODE"
   pub mode : g .host .mode < 256
+  pub counters : CountersFit (g .counters)
 
 -- a gauge value of these widths which 14 does not refuse
 pub record Taken (g : Gauge) : Type 0 where

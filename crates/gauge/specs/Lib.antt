@@ -4,5 +4,6 @@ pub mod Calls
 pub mod Fits
 pub mod Obey
 pub mod Opening
+pub mod Parts
 pub mod Rest
 pub mod Window

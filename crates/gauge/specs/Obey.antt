@@ -5,6 +5,7 @@ use Rattle.command.specs.declared.command.Command.{Command}
 use Rattle.command.specs.declared.command.Decision.{Decision}
 use Rattle.command.specs.declared.command.Decision.the-variants.{Obey, Refused}
 use Rattle.configuration.specs.Terms.{termsOf}
+use Rattle.counters.specs.Counters.{countersObeyed}
 use Rattle.flags.specs.Flags.{flagsObeyed}
 use Rattle.host.specs.Host.{hostObeyed}
 use Rattle.sample.specs.Sample.{sampleReset}
@@ -20,6 +21,7 @@ obeyed command g =
       standby = standbyReset (isReset command) ((termsOf (g .configuration)) .s0) (g .standby);
       flags = flagsObeyed command (g .flags);
       host = hostObeyed command (termsOf (g .configuration)) (g .host);
+      counters = countersObeyed command (g .counters);
     }
 
 -- a refused key leaves the gauge

@@ -7,6 +7,7 @@ use lib.ListN.{length, replicate}
 use Rattle.charge.specs.Charge.{openedCharge}
 use Rattle.configuration.specs.Configuration.{ilmd}
 use Rattle.configuration.specs.Terms.{termsOf}
+use Rattle.counters.specs.Counters.{openedCounters}
 use Rattle.flags.specs.Flags.{openedFlags}
 use Rattle.host.specs.Host.{openedHost}
 use Rattle.refusals.specs.Refusal as Refusal
@@ -16,7 +17,8 @@ use Rattle.gauge.specs.Answer.{answered}
 use Rattle.gauge.specs.declared.answer.Answer.{Answer}
 use Rattle.gauge.specs.declared.state.Gauge.{Gauge}
 
--- "LMD = design capacity, h, DCR, c, IAV, AR, VOLT, TEMP 0 .. flags only CI", MODE as opened; SI "opening at 16 × S0" (A1 of paper 02)
+-- "LMD = design capacity, h, DCR, c, IAV, AR, VOLT, TEMP 0 .. flags only CI", MODE as opened; SI "opening at 16 × S0" (A1 of paper 02); nothing
+-- counted yet (A4)
 unfoldable pub opened : List ℕ → Gauge
 opened c =
     record {
@@ -26,6 +28,7 @@ opened c =
       standby = openedStandby ((termsOf c) .s0);
       flags = openedFlags true;
       host = openedHost (termsOf c);
+      counters = openedCounters;
     }
 
 -- 1 "configuration not 10 bytes", 2 "ILMD 0"

@@ -3,6 +3,7 @@ use Prim.Native.Nat.{ℕ}
 use Rattle.charge.specs.Charge.{leaked, moved}
 use Rattle.charge.specs.declared.charge.Charge.{Charge}
 use Rattle.configuration.specs.Terms.{termsOf}
+use Rattle.counters.specs.Counters.{countersMoved}
 use Rattle.flags.specs.Flags.{clearedIf}
 use Rattle.grains.specs.Leak.{leakRate}
 use Rattle.host.specs.Host.{fullIf}
@@ -34,4 +35,6 @@ window c v t g =
       flags = flagsEnded ((reachedIn c v t g) .ending) (clearedIf (c .charging) (g .flags));
       -- Step 3
       host = fullIf ((reachedIn c v t g) .full) (g .host);
+      -- "since the last window with c not 0" (A4 of paper 02)
+      counters = countersMoved c (g .counters);
     }

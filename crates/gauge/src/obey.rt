@@ -17,11 +17,13 @@ impl Gauge {
         let standby = reset_if(reset, configuration, self.standby);
         let flags = self.flags.obeyed(command);
         let host = self.host.obeyed(command, configuration);
+        let counters = self.counters.obeyed(command);
         self.charge = charge;
         self.sample = sample;
         self.standby = standby;
         self.flags = flags;
         self.host = host;
+        self.counters = counters;
         self
     }
 }

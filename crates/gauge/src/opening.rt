@@ -6,6 +6,7 @@ use crate::state::Gauge;
 use charge::charge::Charge;
 use configuration::configuration::Configuration;
 use configuration::configuration::ilmd;
+use counters::counters::Counters;
 use flags::flags::Flags;
 use host::host::Host;
 use numbers::little::ten_at;
@@ -23,6 +24,7 @@ fn opened(configuration: Configuration) -> Gauge
     let standby = opened_standby(configuration);
     let flags = Flags::opened(true);
     let host = Host::opened(configuration);
+    let counters = Counters::opened();
     Gauge {
         configuration,
         charge,
@@ -30,6 +32,7 @@ fn opened(configuration: Configuration) -> Gauge
         standby,
         flags,
         host,
+        counters,
     }
 }
 

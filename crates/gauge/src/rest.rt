@@ -13,8 +13,10 @@ impl Gauge {
         let rate = leak_rate(sd(configuration), temperature);
         let charge = self.charge.rested(windows, rate);
         let sample = self.sample.rested(temperature);
+        let counters = self.counters.rested(windows);
         self.charge = charge;
         self.sample = sample;
+        self.counters = counters;
         self
     }
 }

@@ -1,6 +1,7 @@
 // The gauge, a value: the ten configuration bytes travel in it.
 use charge::charge::Charge;
 use configuration::configuration::Configuration;
+use counters::counters::Counters;
 use flags::flags::Flags;
 use host::host::Host;
 use sample::sample::Sample;
@@ -17,4 +18,6 @@ pub struct Gauge {
     pub flags: Flags,
     // MODE and AR
     pub host: Host,
+    // rest windows
+    pub counters: Counters,
 }

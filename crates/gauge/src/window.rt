@@ -47,6 +47,7 @@ impl Gauge {
             temperature,
         };
         let standby = averaged(configuration, self.standby, current.discharge());
+        let counters = self.counters.moved(current);
         Gauge {
             configuration,
             charge,
@@ -54,6 +55,7 @@ impl Gauge {
             standby,
             flags,
             host,
+            counters,
         }
     }
 }

@@ -7,13 +7,13 @@ use native.Mathlib.Omega.{arith}
 use lib.Dec.{ltb}
 use lib.ListN.{getD, set}
 use borrow.Author.Tests.{eq-eqb, ltb-false, ne-eqb}
+use Rattle.form.specs.Form.{newest, savedLength}
 use Rattle.gauge.specs.Accepted.{accepted}
 use Rattle.gauge.specs.Calls.{storedAt, writeAnswer, writeRefusal, written}
 use Rattle.gauge.specs.declared.answer.Answer.{Answer}
 use Rattle.gauge.specs.declared.state.Gauge.{Gauge}
 use Rattle.host.specs.Host.{stored}
-use Rattle.saved.specs.Form.{newest, savedLength}
-use Rattle.saved.specs.Load.{formFits, loaded}
+use Rattle.load.specs.Load.{formFits, loaded}
 use Rattle.saved.specs.Save.{fieldBytes, fieldsBytes, savedBytes}
 use Rattle.saved.proofs.RoundTripLaws.{saved-loaded}
 use Rattle.handset.specs.Keep.{hostPlace}

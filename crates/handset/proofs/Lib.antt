@@ -1,8 +1,8 @@
 pub mod CallLaws
+pub mod EstimateLaws
 pub mod HostByteLaws
 pub mod KeepLaws
 pub mod LookLaws
 pub mod PreviewLaws
 pub mod ReadLaws
 pub mod StoreLaws
-pub mod TakenLaws

@@ -4,12 +4,12 @@ use mathlib.Core.Bool.{Bool, true, false}
 use mathlib.Core.List.{List}
 use mathlib.Core.Path.{_≡_, refl, sym, ap, _∙_}
 use Prim.Native.Nat.{ℕ}
+use Rattle.form.specs.Form.{newest}
 use Rattle.gauge.specs.Accepted.{accepted}
 use Rattle.gauge.specs.declared.state.Gauge.{Gauge}
+use Rattle.load.specs.Load.{formFits, loaded, rejectedAnswer}
+use Rattle.load.proofs.LoadLaws.{accepted-loads, misfit-loads, rejected-loads}
 use Rattle.refusals.specs.Refusal as Refusal
-use Rattle.saved.specs.Form.{newest}
-use Rattle.saved.specs.Load.{formFits, loaded, rejectedAnswer}
-use Rattle.saved.proofs.LoadLaws.{accepted-loads, misfit-loads, rejected-loads}
 use Rattle.handset.specs.Calls.{lookLeaves, lookNumber}
 
 -- what a call on a gauge value yields for one that is rejected: 14 for the number, what stood there for what is lent

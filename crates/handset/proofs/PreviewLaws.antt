@@ -7,10 +7,14 @@ use Prim.Native.Nat.{ℕ, _<_}
 use lib.ListN.{getD, length}
 use borrow.Author.Tests.{eq-eqb, ne-eqb}
 use Rattle.command.specs.Command.{commandOf, decide}
+use Rattle.form.specs.Form.{newest, savedLength}
 use Rattle.gauge.specs.Fits.{Taken}
 use Rattle.gauge.specs.declared.answer.Answer.{Answer}
 use Rattle.gauge.specs.declared.state.Gauge.{Gauge}
 use Rattle.gauge.proofs.ObeyedKept.{key-taken}
+use Rattle.load.specs.Load.{answerIn, decodedGauge, formFits, loaded}
+use Rattle.load.proofs.LoadLaws.{decoded-is, form-length, loads}
+use Rattle.load.proofs.TakenLaws.{newest-taken}
 use Rattle.preview.specs.Preview as Preview
 use Rattle.preview.specs.Preview.{commandAfter, onCopy, previewRefusal, wholeReplyRefusal}
 use Rattle.preview.proofs.PreviewLaws.{reads}
@@ -18,14 +22,10 @@ use Rattle.refusals.specs.Refusal as Refusal
 use Rattle.refusals.proofs.OrElseLaws.{first-none, refusal-leaves, second-none, third-unasked}
 use Rattle.registers.specs.Map.{registerCount}
 use Rattle.registers.specs.Reading as Reading
-use Rattle.saved.specs.Form.{newest, savedLength}
-use Rattle.saved.specs.Load.{answerIn, decodedGauge, formFits, loaded}
 use Rattle.saved.specs.Save.{savedBytes}
-use Rattle.saved.proofs.LoadLaws.{decoded-is, form-length, loads}
 use Rattle.saved.proofs.RoundTripLaws.{load-of-saved}
 use Rattle.handset.specs.Calls.{callBytes, callNumber, lookLeaves, lookNumber, previewCommand, previewNumber, previewReply, readNumber, readReply, writeCall}
 use Rattle.handset.proofs.LookLaws.{misfit-leaves, misfit-number}
-use Rattle.handset.proofs.TakenLaws.{newest-taken}
 
 module _ (saved : List ℕ) (key : ℕ) (reply : List ℕ) (before : ℕ) where
   -- the number, every byte of the reply and the command afterwards

@@ -6,13 +6,13 @@ use Prim.Native.Nat.{ℕ, _≤_, _<_}
 use native.Mathlib.Omega.{arith}
 use lib.ListN.{getD, set}
 use borrow.Author.Tests.{le-ltb, lt-ltb, ne-eqb}
+use Rattle.form.specs.Form.{newest}
 use Rattle.gauge.specs.Accepted.{accepted}
 use Rattle.gauge.specs.Calls.{storedAt}
 use Rattle.gauge.specs.declared.state.Gauge.{Gauge}
 use Rattle.gauge.proofs.CallLaws.{answer, write-beyond, write-rejected, write-stored}
+use Rattle.load.specs.Load.{formFits, loaded}
 use Rattle.refusals.specs.Refusal as Refusal
-use Rattle.saved.specs.Form.{newest}
-use Rattle.saved.specs.Load.{formFits, loaded}
 use Rattle.handset.specs.Calls.{callBytes, callNumber, writeCall}
 use Rattle.handset.specs.Keep.{hostPlace}
 use Rattle.handset.proofs.CallLaws.{done, refused, write-rejects}

@@ -7,19 +7,20 @@ use Prim.Native.Nat.{ℕ}
 use lib.Dec.{eqb}
 use lib.IntN.{ℤ}
 use lib.ListN.{length}
+use Rattle.estimate.specs.Estimate.{distanceAfter, estimateAfter, estimateRefusal}
+use Rattle.form.specs.Form.{newest}
 use Rattle.gauge.specs.Calls.{restAnswer, windowAnswer, writeAnswer}
 use Rattle.gauge.specs.Opening.{openRefusal, opened}
 use Rattle.gauge.specs.declared.answer.Answer.{Answer}
 use Rattle.gauge.specs.declared.state.Gauge.{Gauge}
+use Rattle.load.specs.EveryForm.{loadAnswer}
+use Rattle.load.specs.Load.{answerIn}
 use Rattle.preview.specs.Preview as Preview
 use Rattle.preview.specs.Preview.{commandAfter, previewRefusal}
 use Rattle.refusals.specs.Refusal as Refusal
 use Rattle.refusals.specs.Refusal.{orElse}
 use Rattle.registers.specs.Reading as Reading
 use Rattle.registers.specs.Reading.{readRefusal}
-use Rattle.saved.specs.EveryForm.{loadAnswer}
-use Rattle.saved.specs.Form.{newest}
-use Rattle.saved.specs.Load.{answerIn}
 use Rattle.saved.specs.Save.{lengthRefusal, savedBytes}
 
 -- ---- a call that moves the gauge: "On success window and write leave the new gauge saved in the same bytes."
@@ -84,3 +85,14 @@ previewReply saved key reply = lookLeaves saved (λ g. Preview.replyAfter g key 
 
 abbrev pub previewCommand : List ℕ → ℕ → ℕ → ℕ → ℕ
 previewCommand saved key replyLength before = lookLeaves saved (λ g. commandAfter g key replyLength before) before
+
+-- an estimate from a voltage (A4 of paper 02): 14, 15, 16
+
+abbrev pub estimateNumber : List ℕ → ℤ → ℕ
+estimateNumber saved v = lookNumber saved (λ g. estimateRefusal g v)
+
+abbrev pub estimateCounts : List ℕ → ℤ → ℕ → ℕ
+estimateCounts saved v before = lookLeaves saved (λ g. estimateAfter g v before) before
+
+abbrev pub estimateDistance : List ℕ → ℤ → ℤ → ℤ
+estimateDistance saved v before = lookLeaves saved (λ g. distanceAfter g v before) before

@@ -3,10 +3,10 @@ use mathlib.Core.Bool.{cond}
 use mathlib.Core.List.{List}
 use Prim.Native.Nat.{ℕ, _+_}
 use lib.Dec.{eqb}
+use Rattle.form.specs.Form.{Ar, Mode, newest, placeOf}
 use Rattle.gauge.specs.declared.answer.Answer.{Answer}
 use Rattle.refusals.specs.Refusal as Refusal
 use Rattle.refusals.specs.Refusal.{orElse}
-use Rattle.saved.specs.Form.{Ar, Mode, newest, placeOf}
 use Rattle.saved.specs.Save.{lengthRefusal, putAfter}
 
 -- the answer's number, or 13 for a buffer that is not of the form's length

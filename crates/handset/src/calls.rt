@@ -8,19 +8,19 @@ use crate::keep::host_place;
 use crate::keep::keep;
 use crate::key::write_key;
 use command::command::command_of;
+use form::form::LENGTH;
 use gauge::calls::CTRL;
 use gauge::calls::LAST_WRITABLE;
 use gauge::opening::open;
+use load::every_form::load;
+use load::load::decoded;
+use load::load::form_fits;
 use refusals::BUFFER_LENGTH;
 use refusals::NONE;
 use refusals::NOT_WRITABLE;
 use refusals::REJECTED;
 use registers::reading::read;
 use registers::whole::REGISTER_COUNT;
-use saved::every_form::load;
-use saved::form::LENGTH;
-use saved::load::decoded;
-use saved::load::form_fits;
 
 // The bytes of the newest form.
 const SAVED_LENGTH: usize = LENGTH as usize;
@@ -146,4 +146,23 @@ pub extern "C" fn gauge_preview(saved: &[u8], key: u8, reply: &mut [u8], command
     let gauge = decoded(saved);
     *command = command_of(key, gauge.host.mode, gauge.host.ar);
     gauge_read(&copied, CTRL, REGISTERS, reply, 0)
+}
+
+// "Charge from a rested cell". Refuses 14, 15, 16.
+#[no_mangle]
+pub extern "C" fn gauge_estimate(
+    saved: &[u8],
+    voltage: i32,
+    estimate: &mut u16,
+    distance: &mut i32,
+) -> u32
+    ensures number { λ r. ⌜ r ≡ Spec.estimateNumber (now (saved .entry)) voltage ⌝ }
+    ensures estimate { λ _. ⌜ now (estimate .exit) ≡ Spec.estimateCounts (now (saved .entry)) voltage (now (estimate .entry)) ⌝ }
+    ensures distance { λ _. ⌜ now (distance .exit) ≡ Spec.estimateDistance (now (saved .entry)) voltage (now (distance .entry)) ⌝ }
+{
+    if !form_fits(saved) {
+        return REJECTED;
+    }
+    let gauge = decoded(saved);
+    estimate::estimate::estimate(gauge, voltage, estimate, distance)
 }

@@ -3,11 +3,11 @@ ghost use mathlib.Core.Path.{_≡_};
 ghost use Prim.Native.Nat.{_<_};
 ghost use lib.ListN.{length};
 ghost use Rattle.handset.specs.Keep as Spec;
-ghost use Rattle.saved.specs.Form.{savedLength};
+ghost use Rattle.form.specs.Form.{savedLength};
+use form::form::AT_AR;
+use form::form::AT_MODE;
 use gauge::answer::Answer;
 use refusals::NONE;
-use saved::form::AT_AR;
-use saved::form::AT_MODE;
 use saved::save::put;
 
 // The answer's number; where that is 0, its gauge is put into the buffer, or 13.
@@ -24,7 +24,17 @@ pub(crate) fn keep(answer: Answer, saved: &mut [u8]) -> u32
     let standby = answer.gauge.standby;
     let flags = answer.gauge.flags;
     let host = answer.gauge.host;
-    put(configuration, charge, sample, standby, flags, host, saved)
+    let counters = answer.gauge.counters;
+    put(
+        configuration,
+        charge,
+        sample,
+        standby,
+        flags,
+        host,
+        counters,
+        saved,
+    )
 }
 
 // Where the saved bytes hold the byte that a host write stores: MODE at 1, AR low at 2 or AR high at 3.

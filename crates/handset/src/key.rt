@@ -3,9 +3,9 @@ ghost use mathlib.Core.Path.{_≡_};
 ghost use Rattle.handset.specs.Calls as Spec;
 use crate::keep::keep;
 use gauge::calls::CTRL;
+use load::load::decoded;
+use load::load::form_fits;
 use refusals::REJECTED;
-use saved::load::decoded;
-use saved::load::form_fits;
 
 // Refuses 14, 8 to 11.
 pub(crate) fn write_key(saved: &mut [u8], key: u8) -> u32

@@ -1,5 +1,5 @@
 -- Each call keeps what holds of a gauge and its history: the gauge is accepted, the configuration is the same, the history's charge, capacity
--- and run are the gauge's, and MODE and AR decide alike. Assumes nothing.
+-- and run are the gauge's, its count of rest windows stops at the gauge's, and MODE and AR decide alike. Assumes nothing.
 use mathlib.Core.Bool.{Bool, true, false, cond}
 use mathlib.Core.List.{List}
 use mathlib.Core.Path.{_≡_, refl, sym, ap, _∙_, subst, subst₂}
@@ -14,6 +14,7 @@ use Rattle.command.specs.declared.command.Decision.{Decision}
 use Rattle.command.specs.declared.command.Decision.the-variants.{Obey, Refused}
 use Rattle.configuration.specs.Configuration.{dmf, sd}
 use Rattle.configuration.specs.Terms.{Terms, termsOf}
+use Rattle.counters.specs.Counters.{countersMoved}
 use Rattle.gauge.specs.Calls.{storedAt, written}
 use Rattle.gauge.specs.Obey.{decided, obeyed}
 use Rattle.gauge.specs.Rest.{rest}
@@ -27,12 +28,14 @@ use Rattle.sample.specs.Limits.{leastTemperature, leastVoltage, mostTemperature
 use Rattle.sample.specs.Range.{between, current, currentInRange, currentOf, temperature, temperatureInRange, valueBetween, voltage}
 use Rattle.sample.specs.declared.current.Current.{Current}
 use Rattle.history.specs.Account.{afterRest, afterWindow}
-use Rattle.history.specs.History.{History, afterCommand, afterKey, afterWrite, hostAfter, openedHistory, withAccount, withHost}
-use Rattle.history.specs.History.{withoutCommand}
+use Rattle.history.specs.Counts.{countsAfterRest, countsAfterWindow}
+use Rattle.history.specs.History.{afterCommand, afterKey, afterWrite, hostAfter, openedHistory, withoutCommand}
+use Rattle.history.specs.Kept.{History, withAccount, withCounts, withHost}
 use Rattle.history.specs.Tests.{countedCurrent}
 use Rattle.history.proofs.AnswerLaws.{InRange}
 use Rattle.reached.proofs.ChargeKept.{chargeAfter}
 use Rattle.history.proofs.CommandTracks.{HostTracks, full-host, host-decides, obeyed-host, command-tracks, stored-host}
+use Rattle.history.proofs.CountTracks.{CountTracks, command-counts, rest-counts, window-counts}
 use Rattle.history.proofs.RestTracks.{rest-tracks}
 use Rattle.sample.proofs.SampleKept.{counted-within}
 use Rattle.gauge.proofs.Standing.{Standing, bounded, rate-low}
@@ -44,6 +47,7 @@ pub record Beside (g : Gauge) (x : History) : Type 0 where
   pub configuration : x .configuration ≡ g .configuration
   pub tracks : Tracks (g .charge) (x .account)
   pub host : HostTracks (g .host) (x .host)
+  pub counts : CountTracks (g .counters) (x .counts)
 
 -- ---- the sample with its signs
 
@@ -84,15 +88,31 @@ module _ (g : Gauge) (x : History) (s : Standing g) (f : Beside g x) where
       (ap (λ (j : Current). chargeAfter (termsOf c) (leakRate (sd c) (temperature t)) j (voltage v) (temperature t) (g .charge)) (sym i))
       (sym e) k
 
+  window-count : (a : ℤ) → currentInRange a ≡ true
+      → CountTracks (countersMoved (counted (dmf (g .configuration)) (current a)) (g .counters))
+      (countsAfterWindow (countedCurrent (termsOf (x .configuration)) a) (x .counts))
+  window-count a r =
+      let c = g .configuration in
+      let k = window-counts (g .counters) (x .counts) (f .counts) (countedCurrent (termsOf c) a) in
+      subst₂ CountTracks (ap (λ (j : Current). countersMoved j (g .counters)) (sym (counted-is (termsOf c) a r)))
+      (ap (λ (d : List ℕ). countsAfterWindow (countedCurrent (termsOf d) a) (x .counts)) (sym (f .configuration))) k
+
   pub window-beside : (a v t : ℤ) → InRange a v t
       → Beside (window (counted (dmf (g .configuration)) (current a)) (voltage v) (temperature t) g)
-      (withAccount (afterWindow (termsOf (x .configuration)) (countedCurrent (termsOf (x .configuration)) a) v t (x .account)) x)
+      (withCounts (countsAfterWindow (countedCurrent (termsOf (x .configuration)) a) (x .counts))
+      (withAccount (afterWindow (termsOf (x .configuration)) (countedCurrent (termsOf (x .configuration)) a) v t (x .account)) x))
   unfolding window summed reachedIn reachedBy chargeReached
   window-beside a v t r =
-      record { configuration = f .configuration; tracks = window-charge a v t r; host = full-host _ (g .host) (x .host) (f .host) }
+      record {
+        configuration = f .configuration;
+        tracks = window-charge a v t r;
+        host = full-host _ (g .host) (x .host) (f .host);
+        counts = window-count a (r .current);
+      }
 
   pub rest-beside : (n : ℕ) (t : ℤ) → temperatureInRange t ≡ true
-      → Beside (rest n (temperature t) g) (withAccount (afterRest (termsOf (x .configuration)) n t (x .account)) x)
+      → Beside (rest n (temperature t) g)
+      (withCounts (countsAfterRest n (x .counts)) (withAccount (afterRest (termsOf (x .configuration)) n t (x .account)) x))
   unfolding rest
   rest-beside n t r =
       let c = g .configuration in
@@ -104,6 +124,7 @@ module _ (g : Gauge) (x : History) (s : Standing g) (f : Beside g x) where
         configuration = f .configuration;
         tracks = subst (Tracks (rested n (leakRate (sd c) (temperature t)) (g .charge))) (sym e) k;
         host = f .host;
+        counts = rest-counts (g .counters) (x .counts) (f .counts) n;
       }
 
   stored-beside : (address value : ℕ) → Beside (storedAt address value g) (withHost (hostAfter address value (x .host)) x)
@@ -113,6 +134,7 @@ module _ (g : Gauge) (x : History) (s : Standing g) (f : Beside g x) where
         configuration = f .configuration;
         tracks = f .tracks;
         host = stored-host address value (g .host) (x .host) (s .host .ar) (f .host);
+        counts = f .counts;
       }
 
   command-configuration : (command : Command) → (afterCommand command x) .configuration ≡ x .configuration
@@ -130,6 +152,7 @@ module _ (g : Gauge) (x : History) (s : Standing g) (f : Beside g x) where
         configuration = command-configuration command ∙ f .configuration;
         tracks = command-tracks command (g .configuration) (g .host .ar) (g .charge) x (f .tracks) (f .configuration) (f .host .ar);
         host = obeyed-host command (g .configuration) (g .host) x (f .host .ar);
+        counts = command-counts command (g .counters) x (f .counts);
       }
 
   decided-beside : (d : Decision) → Beside (decided d g) (afterKey d x)

@@ -22,7 +22,8 @@ use Rattle.host.proofs.HostLaws.{commands-cleared-bit, init-cleared-bit}
 use Rattle.numbers.specs.Little.{byteAt}
 use Rattle.numbers.specs.Signed.{atLeastZero}
 use Rattle.refusals.specs.Refusal as Refusal
-use Rattle.history.specs.History.{History, afterCommand, hostAfter, openedHistory, withoutCommand}
+use Rattle.history.specs.History.{afterCommand, hostAfter, openedHistory, withoutCommand}
+use Rattle.history.specs.Kept.{History}
 use Rattle.history.specs.Sums.{chargeOf, grainsACount}
 use Rattle.history.proofs.Tracking.{Tracks, fixed-is}
 

@@ -1,6 +1,7 @@
 pub mod AnswerLaws
 pub mod BesideLaws
 pub mod CommandTracks
+pub mod CountTracks
 pub mod DifferenceLaws
 pub mod ListLaws
 pub mod NumberLaws

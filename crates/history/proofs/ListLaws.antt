@@ -13,6 +13,8 @@ use Rattle.charge.specs.Charge.{openedCharge}
 use Rattle.charge.proofs.ChargeLaws.{RunSound}
 use Rattle.configuration.specs.Configuration.{dmf, ilmd, s0}
 use Rattle.configuration.specs.Terms.{termsOf}
+use Rattle.counters.specs.Counters.{openedCounters}
+use Rattle.counters.proofs.CountersKept.{opened-counters}
 use Rattle.gauge.specs.Accepted.{accepted}
 use Rattle.gauge.specs.Answer.{answered, unlessRejected}
 use Rattle.gauge.specs.Calls.{restAnswer, restInRange, restRefusal, sampleRefusal, windowAnswer, writeAnswer, writeRefusal}
@@ -29,13 +31,15 @@ use Rattle.history.specs.After.{after, gaugeAfter, numberOf}
 use Rattle.history.specs.Call.{Call}
 use Rattle.history.specs.Call as Call
 use Rattle.history.specs.Claim.{Agrees, Demand3, FromAnyGauge, begun, drainOf, runOf}
-use Rattle.history.specs.History.{History, afterCall, afterCalls, afterWork, openedHistory}
+use Rattle.history.specs.History.{afterCall, afterCalls, afterWork, openedHistory}
+use Rattle.history.specs.Kept.{History}
 use Rattle.history.specs.Refused.{refusalOf}
 use Rattle.history.proofs.AnswerLaws.{rest-in-range, window-in-range}
 use Rattle.history.proofs.BesideLaws.{Beside, rest-beside, window-beside, written-beside}
+use Rattle.history.proofs.CountTracks.{begun-counts}
 use Rattle.reached.proofs.ChargeKept.{opened-bounded}
 use Rattle.host.proofs.HostKept.{opened-fits}
-use Rattle.history.proofs.NumberLaws.{number-most, numbers-alike}
+use Rattle.history.proofs.NumberLaws.{number-other, numbers-alike}
 use Rattle.sample.proofs.SampleKept.{no-sample}
 use Rattle.standby.proofs.StandbyKept.{opened-standby}
 use Rattle.gauge.proofs.Standing.{Standing, standing, taken}
@@ -60,20 +64,21 @@ either-beside false g x f = f
 pub call-beside : (call : Call) (g : Gauge) (x : History) → Standing g → Beside g x → Beside (gaugeAfter call g) (afterCall call x)
 unfolding gaugeAfter numberOf afterCall afterWork windowAnswer restAnswer writeAnswer
 call-beside (Call.window a v t) g x s f =
-    rw (← numbers-alike (Call.window a v t) g (x .host) (sound-accepted g (s .sound)) (f .host))
+    rw (← numbers-alike (Call.window a v t) g x (sound-accepted g (s .sound)) f)
     (answered-beside (unlessRejected g (sampleRefusal a v t)) g _ x _ f
     (λ e. window-beside g x s f a v t (window-in-range a v t (not-rejected (accepted g) (sampleRefusal a v t) e .1))))
 call-beside (Call.rest n t) g x s f =
-    rw (← numbers-alike (Call.rest n t) g (x .host) (sound-accepted g (s .sound)) (f .host))
+    rw (← numbers-alike (Call.rest n t) g x (sound-accepted g (s .sound)) f)
     (answered-beside (unlessRejected g (restRefusal n t)) g _ x _ f
     (λ e. rest-beside g x s f n t (rest-in-range (restInRange n) t (not-rejected (accepted g) (restRefusal n t) e .1))))
 call-beside (Call.write address value) g x s f =
-    rw (← numbers-alike (Call.write address value) g (x .host) (sound-accepted g (s .sound)) (f .host))
+    rw (← numbers-alike (Call.write address value) g x (sound-accepted g (s .sound)) f)
     (answered-beside (unlessRejected g (writeRefusal (g .host .mode) (g .host .ar) address (value .number))) g _ x _ f
     (λ e. written-beside g x s f address (value .number)))
 call-beside (Call.read address count place replyLength) g x s f =
-    either-beside (eqb (refusalOf (Call.read address count place replyLength) (x .host)) 0) g x f
-call-beside (Call.preview key replyLength) g x s f = either-beside (eqb (refusalOf (Call.preview key replyLength) (x .host)) 0) g x f
+    either-beside (eqb (refusalOf (Call.read address count place replyLength) x) 0) g x f
+call-beside (Call.preview key replyLength) g x s f = either-beside (eqb (refusalOf (Call.preview key replyLength) x) 0) g x f
+call-beside (Call.estimate v) g x s f = either-beside (eqb (refusalOf (Call.estimate v) x) 0) g x f
 
 -- ---- every list
 
@@ -83,11 +88,11 @@ agrees g x s f =
       held = sym (f .tracks .held);
       lmd = f .tracks .lmd;
       run = f .tracks .run;
-      refused = λ call. numbers-alike call g (x .host) (sound-accepted g (s .sound)) (f .host);
+      rests = f .counts .rests;
+      refused = λ call. numbers-alike call g x (sound-accepted g (s .sound)) f;
       never = λ call e.
-          let n = numbers-alike call g (x .host) (sound-accepted g (s .sound)) (f .host) in
-          let m = number-most call (x .host) in
-          omega arith;
+          let n = numbers-alike call g x (sound-accepted g (s .sound)) f in
+          number-other call x (sym n ∙ e);
     }
 
 pub list-agrees : (calls : List Call) (g : Gauge) (x : History) → Standing g → Beside g x → Agrees (after calls g) (afterCalls calls x)
@@ -121,6 +126,7 @@ begun-beside g s =
       configuration = refl;
       tracks = record { held = fixed-is (g .charge .held); lmd = refl; run = run-begun (g .charge .run) (s .sound .charge .run) };
       host = record { mode = refl; ar = refl };
+      counts = begun-counts (g .counters) (s .counters);
     }
 
 pub from-any-gauge : FromAnyGauge
@@ -150,6 +156,7 @@ opened-stands c bytes e =
       };
       lmd = b .lmd;
       host = opened-fits c (bytes 6);
+      counters = opened-counters;
     }
 
 pub opened-taken : (c : List ℕ) → ((k : ℕ) → getD c k 0 < 256) → openRefusal c ≡ 0 → Taken (opened c)
@@ -161,7 +168,7 @@ opened-answer c e = rw e
 
 -- the opened history is the one that begins at the opened gauge, MODE and AR too
 pub opened-begun : (c : List ℕ) → openedHistory c ≡ begun (opened c)
-unfolding openedHistory begun opened openedCharge openedHost
+unfolding openedHistory begun opened openedCharge openedHost openedCounters
 opened-begun c = refl
 
 pub demand-3 : Demand3

@@ -3,19 +3,23 @@
 use mathlib.Core.Bool.{Bool, true, false, cond}
 use mathlib.Core.List.{List, [], _∷_}
 use mathlib.Core.Path.{_≡_, refl, sym, ap, _∙_}
-use Prim.Native.Nat.{ℕ, zero, suc, _<_}
+use Prim.Native.Nat.{ℕ, zero, suc, _+_, _<_}
 use native.Mathlib.Nat.{not-suc-le-zero}
+use native.Mathlib.Omega.{arith}
 use lib.Dec.{eqb, leb, ltb}
 use lib.IntN.{ℤ}
 use lib.ListN.{replicate}
 use borrow.Author.Tests.{eqb-true, ltb-true}
 use Rattle.charge.specs.Rest.{rested}
+use Rattle.counters.specs.Counters.{countersRested}
+use Rattle.counters.proofs.CountersLaws.{rested-twice}
 use Rattle.gauge.specs.Accepted.{accepted}
 use Rattle.gauge.specs.Answer.{unlessRejected}
 use Rattle.gauge.specs.Calls.{longestRest, restAnswer, restInRange}
 use Rattle.gauge.specs.Rest.{rest}
 use Rattle.gauge.specs.declared.state.Gauge.{Gauge}
 use Rattle.gauge.proofs.AcceptedLaws.{sound-accepted}
+use Rattle.gauge.proofs.GaugeLaws as Parts
 use Rattle.gauge.proofs.Standing.{Standing, standing}
 use Rattle.numbers.proofs.BoolLaws.{and-left}
 use Rattle.refusals.specs.Refusal as Refusal
@@ -71,10 +75,12 @@ all-refused n r t g refused =
 
 -- ---- where it is accepted
 
--- window by window: TEMP and the sample stand after the first as after the last
+-- window by window: TEMP and the sample stand after the first as after the last, and the count stops where that of all of them does
 rest-joined : (n t : ℕ) (g : Gauge) → rest (suc n) t (rest 1 t g) ≡ rest (suc (suc n)) t g
 unfolding rest rested sampleRested
-rest-joined n t g = refl
+rest-joined n t g =
+    let all : 1 + suc n ≡ suc (suc n) = omega arith in
+    Parts.gauge-is refl refl refl refl refl (rested-twice 1 (suc n) (g .counters) ∙ ap (λ (m : ℕ). countersRested m (g .counters)) all)
 
 module _ (t : ℤ) (inRange : temperatureInRange t ≡ true) where
   taken-number : (g : Gauge) → Standing g → number t g ≡ Refusal.none

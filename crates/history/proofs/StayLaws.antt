@@ -9,6 +9,7 @@ use borrow.Author.Tests.{eqb-true}
 use Rattle.command.specs.Command.{decide}
 use Rattle.configuration.specs.Configuration.{dmf, s0, sd}
 use Rattle.configuration.specs.Terms.{termsOf}
+use Rattle.counters.proofs.CountersKept.{moved-fits, rested-fits}
 use Rattle.gauge.specs.Accepted.{accepted}
 use Rattle.gauge.specs.Answer.{answered, unlessRejected}
 use Rattle.gauge.specs.Calls.{restAnswer, restInRange, restRefusal, sampleRefusal, storedAt, windowAnswer, writeAnswer, writeRefusal, written}
@@ -55,6 +56,7 @@ module _ (g : Gauge) (s : Standing g) where
         };
         lmd = b .lmd;
         host = full-fits _ (g .host) (s .host);
+        counters = moved-fits (g .counters) (s .counters) i;
       }
 
   pub rest-stands : (n : ℕ) (t : ℤ) → temperatureInRange t ≡ true → Standing (rest n (temperature t) g)
@@ -72,6 +74,7 @@ module _ (g : Gauge) (s : Standing g) where
         };
         lmd = b .lmd;
         host = s .host;
+        counters = rested-fits n (g .counters);
       }
 
   stored-stands : (address value : ℕ) → value < 256 → Standing (storedAt address value g)
@@ -87,6 +90,7 @@ module _ (g : Gauge) (s : Standing g) where
         };
         lmd = s .lmd;
         host = stored-fits address value (g .host) small (s .host);
+        counters = s .counters;
       }
 
   written-stands : (address value : ℕ) → value < 256 → Standing (written address value g)
@@ -121,6 +125,7 @@ call-stands (Call.write address value) g s =
     (λ e. written-stands g s address (value .number) (value .below))
 call-stands (Call.read address count place replyLength) g s = s
 call-stands (Call.preview key replyLength) g s = s
+call-stands (Call.estimate v) g s = s
 
 pub stays-accepted : StaysAccepted
 stays-accepted g k call = taken (gaugeAfter call g) (call-stands call g (standing g k))

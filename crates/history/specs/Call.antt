@@ -1,5 +1,5 @@
--- A call on a gauge with all its arguments: "windows, rests, host writes (resets among them) and reads, refused ones included", and previews, each of
--- which "may stand anywhere" (A2 of paper 02). Definitions only; assumes nothing.
+-- A call on a gauge with all its arguments: "windows, rests, host writes (resets among them) and reads, refused ones included", previews, each of
+-- which "may stand anywhere" (A2 of paper 02), and estimates (A4). Definitions only; assumes nothing.
 use Prim.Native.Nat.{ℕ, _<_}
 use lib.IntN.{ℤ}
 
@@ -14,3 +14,4 @@ pub data Call : Type 0 where
   write : (address : ℕ) (value : Byte) → Call
   read : (address count place replyLength : ℕ) → Call
   preview : (key : Byte) (replyLength : ℕ) → Call
+  estimate : (v : ℤ) → Call

@@ -16,7 +16,9 @@ use Rattle.refusals.specs.Refusal as Refusal
 use Rattle.history.specs.Account.{fixing}
 use Rattle.history.specs.After.{after, gaugeAfter, numberOf}
 use Rattle.history.specs.Call.{Call}
-use Rattle.history.specs.History.{History, afterCalls, openedHistory}
+use Rattle.history.specs.Counts.{restCount}
+use Rattle.history.specs.History.{afterCalls, openedHistory}
+use Rattle.history.specs.Kept.{History}
 use Rattle.history.specs.Refused.{refusalOf}
 use Rattle.history.specs.Sums.{chargeOf}
 
@@ -32,8 +34,10 @@ pub record Agrees (g : Gauge) (x : History) : Type 0 where
   -- "LMD equals L"
   pub lmd : g .charge .lmd ≡ x .account .learned
   pub run : g .charge .run ≡ runOf (x .account .run)
-  -- "A call is refused exactly where the numbers below say so for its arguments and the MODE and AR kept here"
-  pub refused : (call : Call) → numberOf call g ≡ refusalOf call (x .host)
+  -- the count of rest windows (A4 of paper 02)
+  pub rests : g .counters .rests ≡ restCount (x .counts)
+  -- "A call is refused exactly where the numbers below say so for its arguments and" what the history keeps
+  pub refused : (call : Call) → numberOf call g ≡ refusalOf call x
   -- "14 never arises in such a list"
   pub never : (call : Call) → numberOf call g ≡ Refusal.rejected → ⊥
 
@@ -58,6 +62,7 @@ begun g =
       configuration = g .configuration;
       account = fixing (g .charge .held) (g .charge .lmd) (drainOf (g .charge .run));
       host = g .host;
+      counts = record { rests = g .counters .rests };
     }
 
 -- "Any gauge value handed to a call": for each that is accepted and every list of calls

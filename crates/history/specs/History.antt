@@ -16,33 +16,22 @@ use Rattle.host.specs.Host.{commandsCleared}
 use Rattle.host.specs.declared.host.Host.{Host}
 use Rattle.numbers.specs.Signed.{atLeastZero}
 use Rattle.refusals.specs.Refusal as Refusal
-use Rattle.history.specs.Account.{Account, afterRest, afterWindow, fixing, withRun}
-use Rattle.history.specs.Call.{Call, window, rest, write, read, preview}
+use Rattle.history.specs.Account.{afterRest, afterWindow, fixing, withRun}
+use Rattle.history.specs.Call.{Call, window, rest, write, read, preview, estimate}
+use Rattle.history.specs.Counts.{countsAfterRest, countsAfterWindow, noCounts}
+use Rattle.history.specs.Kept.{History, withAccount, withCounts, withHost}
 use Rattle.history.specs.Refused.{refusalOf}
 use Rattle.history.specs.Sums.{chargeOf, grainsACount}
 use Rattle.history.specs.Tests.{countedCurrent}
 
--- what the history keeps
-pub record History : Type 0 where
-  pub configuration : List ℕ
-  -- P, Q and K, L, "a run with its drain R or no run"
-  pub account : Account
-  -- "MODE and AR"
-  pub host : Host
-
-abbrev pub withAccount : Account → History → History
-withAccount account x = record { configuration = x .configuration; account = account; host = x .host }
-
-abbrev pub withHost : Host → History → History
-withHost host x = record { configuration = x .configuration; account = x .account; host = host }
-
--- "It starts with P, Q and K 0, L the design capacity, no run, MODE and AR as opened."
+-- "It starts with P, Q and K 0, L the design capacity, no run, MODE and AR as opened."; nothing is counted yet
 unfoldable pub openedHistory : List ℕ → History
 openedHistory configuration =
     record {
       configuration = configuration;
       account = fixing 0 ((termsOf configuration) .capacity) none;
       host = record { mode = (termsOf configuration) .mode; ar = 0 };
+      counts = noCounts;
     }
 
 -- ---- "Host write"
@@ -55,12 +44,13 @@ hostAfter address value host =
     (record { mode = host .mode; ar = host .ar % 256 + 256 * value }))
 
 -- "WRTNAC fixes H at min(AR, L) × G; WRTLMD sets L to AR and fixes H at min(H, L × G); both end a run. DONE fixes H at L × G and starts
--- a run with R 0. FRST starts the history anew. PRST ends a run and puts MODE and AR as opened."
+-- a run with R 0. FRST starts the history anew. PRST ends a run and puts MODE and AR as opened." Either reset clears the count of rest windows.
 unfoldable pub afterCommand : Command → History → History
 afterCommand Wrtnac x =
     withAccount (fixing (min (x .host .ar) (x .account .learned) * grainsACount) (x .account .learned) none) x
 afterCommand Done x = withAccount (fixing (x .account .learned * grainsACount) (x .account .learned) (some 0)) x
-afterCommand Prst x = withHost ((openedHistory (x .configuration)) .host) (withAccount (withRun none (x .account)) x)
+afterCommand Prst x =
+    withCounts noCounts (withHost ((openedHistory (x .configuration)) .host) (withAccount (withRun none (x .account)) x))
 afterCommand Frst x = openedHistory (x .configuration)
 afterCommand Wrtlmd x =
     withAccount (fixing (min (atLeastZero (chargeOf (x .account .sums))) (x .host .ar * grainsACount)) (x .host .ar) none) x
@@ -82,15 +72,19 @@ afterWrite address value x =
 
 unfoldable pub afterWork : Call → History → History
 afterWork (window a v t) x =
-    withAccount (afterWindow (termsOf (x .configuration)) (countedCurrent (termsOf (x .configuration)) a) v t (x .account)) x
-afterWork (rest n t) x = withAccount (afterRest (termsOf (x .configuration)) n t (x .account)) x
+    withCounts (countsAfterWindow (countedCurrent (termsOf (x .configuration)) a) (x .counts))
+    (withAccount (afterWindow (termsOf (x .configuration)) (countedCurrent (termsOf (x .configuration)) a) v t (x .account)) x)
+afterWork (rest n t) x =
+    withCounts (countsAfterRest n (x .counts)) (withAccount (afterRest (termsOf (x .configuration)) n t (x .account)) x)
 afterWork (write address value) x = afterWrite address (value .number) x
 afterWork (read address count place replyLength) x = x
 afterWork (preview key replyLength) x = x
+afterWork (estimate v) x = x
 
--- "Read, or any call refused: nothing changes." Nor does a preview: "without changing its sum" (A2 of paper 02)
+-- "Read, or any call refused: nothing changes." Nor does a preview, "without changing its sum" (A2 of paper 02), or an estimate, which "moves no
+-- charge" (A4)
 unfoldable pub afterCall : Call → History → History
-afterCall call x = cond (eqb (refusalOf call (x .host)) Refusal.none) (afterWork call x) x
+afterCall call x = cond (eqb (refusalOf call x) Refusal.none) (afterWork call x) x
 
 -- the history of a list of calls, the first call first
 unfoldable pub afterCalls : List Call → History → History

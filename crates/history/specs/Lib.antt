@@ -2,8 +2,10 @@ pub mod Account
 pub mod After
 pub mod Call
 pub mod Claim
+pub mod Counts
 pub mod Drain
 pub mod History
+pub mod Kept
 pub mod Refused
 pub mod Rests
 pub mod Sums

@@ -2,9 +2,9 @@
 use mathlib.Core.List.{List, [], _∷_}
 use mathlib.Core.Path.{_≡_, refl, sym, ap, _∙_}
 use Prim.Native.Nat.{ℕ, zero, suc, _+_, _*_, _/_, _%_, _^_, _≤_, _<_}
-use native.Mathlib.Nat.{add-suc, add-zero, mul-assoc, mul-comm, pow-suc, suc-add, zero-add}
+use native.Mathlib.Nat.{add-zero, mul-assoc, mul-comm, not-suc-le-zero, pow-suc, suc-add, zero-add}
 use native.Mathlib.Omega.{arith}
-use lib.ListN.{drop, getD, length}
+use lib.ListN.{drop, getD, length, List·getD-eq-default}
 use lib.Seq.{drop-cons, drop-length}
 use Rattle.numbers.specs.Little.{bytesAt, little, numberAt}
 
@@ -27,6 +27,18 @@ number-split (suc m) n place bytes =
     ap (λ (k : ℕ). numberAt k place bytes) (suc-add m n) in
     let product : 256 ^ m * numberAt n (suc place + m) bytes ≡ 256 ^ m * numberAt n (place + suc m) bytes =
     ap (λ (k : ℕ). 256 ^ m * k) same in
+    omega arith
+
+-- the number of one byte is the byte
+pub one-is : (place : ℕ) (bytes : List ℕ) → numberAt 1 place bytes ≡ getD bytes place 0
+one-is place bytes = omega arith
+
+-- past the end of the list every number is 0
+pub past-the-end : (width place : ℕ) (bytes : List ℕ) → length bytes ≤ place → numberAt width place bytes ≡ 0
+past-the-end zero place bytes h = refl
+past-the-end (suc width) place bytes h =
+    let byte = List·getD-eq-default bytes 0 h in
+    let further = past-the-end width (suc place) bytes (omega arith) in
     omega arith
 
 -- the number that bytes are
@@ -55,7 +67,21 @@ write-back (suc width) place bytes h =
     ∙ ap (λ (x : ℕ). getD bytes place 0 ∷ little width x) high
     ∙ ap (λ (l : List ℕ). getD bytes place 0 ∷ l) (write-back width (suc place) bytes h)
 
--- a number of that many bytes fits its width
+-- a number of at most that many bytes fits their width
+pub number-within : (most width place : ℕ) (bytes : List ℕ) → ((k : ℕ) → getD bytes k 0 < 256) → width ≤ most → numberAt width place bytes < 256 ^ most
+number-within zero zero place bytes h w = omega arith
+number-within zero (suc width) place bytes h w = absurd (not-suc-le-zero w)
+number-within (suc most) zero place bytes h w =
+    let p = pow-suc 256 most in
+    let ih = number-within most zero place bytes h (omega arith) in
+    omega arith
+number-within (suc most) (suc width) place bytes h w =
+    let p = pow-suc 256 most in
+    let b = h place in
+    let ih = number-within most width (suc place) bytes h (omega arith) in
+    omega arith
+
+-- a number of two bytes fits them
 pub number-fits : (place : ℕ) (bytes : List ℕ) → ((k : ℕ) → getD bytes k 0 < 256) → numberAt 2 place bytes < 65_536
 number-fits place bytes h = let a = h place in let b = h (suc place) in omega arith
 

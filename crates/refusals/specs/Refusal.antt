@@ -1,4 +1,4 @@
--- "The fourteen numbers" of paper 01, in the order of its table. Definitions only; assumes nothing.
+-- "The fourteen numbers" of paper 01, in the order of its table, and the new ones of paper 02. Definitions only; assumes nothing.
 use mathlib.Core.Bool.{cond}
 use Prim.Native.Nat.{ℕ}
 use lib.Dec.{eqb}
@@ -62,6 +62,14 @@ bufferLength = 13
 -- "saved bytes or gauge value rejected"
 abbrev pub rejected : ℕ
 rejected = 14
+
+-- "fewer than 422 rest windows" (A4 of paper 02)
+abbrev pub notRested : ℕ
+notRested = 15
+
+-- "voltage outside the table" (A4 of paper 02)
+abbrev pub outsideTable : ℕ
+outsideTable = 16
 
 -- "Tested in table order": the second number only where the first is none
 abbrev pub orElse : ℕ → ℕ → ℕ

@@ -1,4 +1,4 @@
-// "The fourteen numbers", in the order of the request's table.
+// "The fourteen numbers", in the order of the request's table, and those that later requests add.
 
 // "success is 0".
 pub const NONE: u32 = 0;
@@ -44,3 +44,9 @@ pub const BUFFER_LENGTH: u32 = 13;
 
 // "saved bytes or gauge value rejected".
 pub const REJECTED: u32 = 14;
+
+// "fewer than 422 rest windows".
+pub const NOT_RESTED: u32 = 15;
+
+// "voltage outside the table".
+pub const OUTSIDE_TABLE: u32 = 16;

@@ -10,22 +10,19 @@ use mir.Val.{Fits}
 use Rattle.compensation.specs.Compensation.{compensated, dcmp}
 use Rattle.gauge.specs.Accepted.{accepted}
 use Rattle.gauge.specs.declared.state.Gauge.{Gauge}
+use Rattle.gauge.proofs.AcceptedLaws as Accepted
 use Rattle.gauge.proofs.AcceptedLaws.{sound}
-use Rattle.grains.specs.Grains as Grains
 use Rattle.sample.specs.Current.{discharge}
 use Rattle.registers.specs.Values.{cac, fcac, nac, reduction}
 
 -- ---- NAC and RSOC
-
-nac-below : (h l : ℕ) → h ≤ Grains.grainsOfCounts l → Grains.nac h ≤ l
-nac-below h l p = omega arith
 
 module _ (g : Gauge) (a : accepted g ≡ true) where
   pub capacity-learned : 0 < g .charge .lmd
   capacity-learned = sound g a .charge .learned
 
   pub nac-within : {n : ℕ} → n ≡ nac g → n ≤ g .charge .lmd
-  nac-within e = let h = nac-below (g .charge .held) (g .charge .lmd) (sound g a .charge .within) in omega arith
+  nac-within e = let h = Accepted.nac-within g a in omega arith
 
 pub percent-fits : (part whole : ℕ) → part ≤ whole → Fits w8 (100 * part / whole)
 percent-fits part whole h =

@@ -10,19 +10,19 @@ use lib.Dec.{T}
 use lib.ListN.{getD, length, length-append}
 use lib.Seq.{getD-append-add, sets}
 use borrow.Author.Tests.{eqb-true}
+use Rattle.form.specs.Form.{Ar, Configuration, Current, Dcr, Flags, FormNumber, Held, Lmd, Mode, Rests, Sixteenths, Standby, Temperature, Voltage}
+use Rattle.form.specs.Form.{Field, Name, has, lengthOf, nameNumber, placeOf, sameName, widthOf}
 use Rattle.gauge.specs.declared.state.Gauge.{Gauge}
 use Rattle.numbers.proofs.LittleLaws.{read-back, valueOf}
 use Rattle.numbers.specs.Little.{bytesAt, little, numberAt}
 use Rattle.saved.proofs.PutLaws.{little-length, sets-append}
-use Rattle.saved.specs.Form.{Ar, Configuration, Current, Dcr, Flags, FormNumber, Held, Lmd, Mode, Sixteenths, Standby, Temperature, Voltage}
-use Rattle.saved.specs.Form.{Field, Name, has, lengthOf, nameNumber, placeOf, sameName, widthOf}
 use Rattle.saved.specs.Save.{fieldBytes, fieldsBytes}
 
 -- ---- names
 
 names : List Name
 names =
-    FormNumber ∷ Configuration ∷ Held ∷ Dcr ∷ Lmd ∷ Standby ∷ Sixteenths ∷ Current ∷ Voltage ∷ Temperature ∷ Ar ∷ Mode ∷ Flags ∷ []
+    FormNumber ∷ Configuration ∷ Held ∷ Dcr ∷ Lmd ∷ Standby ∷ Sixteenths ∷ Current ∷ Voltage ∷ Temperature ∷ Ar ∷ Mode ∷ Flags ∷ Rests ∷ []
 
 nameOf : ℕ → Name
 nameOf n = getD names n FormNumber
@@ -42,6 +42,7 @@ name-back Temperature = refl
 name-back Ar = refl
 name-back Mode = refl
 name-back Flags = refl
+name-back Rests = refl
 
 same-is : (m n : Name) → sameName m n ≡ true → m ≡ n
 same-is m n e = sym (name-back m) ∙ ap nameOf (eqb-true (nameNumber m) (nameNumber n) e) ∙ name-back n
@@ -82,10 +83,6 @@ number-is : (width place : ℕ) (bytes : List ℕ) → numberAt width place byte
 number-is zero place bytes = refl
 number-is (suc width) place bytes = ap (λ (n : ℕ). getD bytes place 0 + 256 * n) (number-is width (suc place) bytes)
 
--- the number of one byte is the byte
-pub one-is : (place : ℕ) (bytes : List ℕ) → numberAt 1 place bytes ≡ getD bytes place 0
-one-is place bytes = omega arith
-
 -- ---- a gauge in the fields of a form
 
 module _ (form : ℕ) (g : Gauge) where
@@ -104,6 +101,7 @@ module _ (form : ℕ) (g : Gauge) where
   field-length Ar width = little-length width _
   field-length Mode width = little-length width _
   field-length Flags width = little-length width _
+  field-length Rests width = little-length width _
 
   pub fields-length : (fs : List Field) → length (fieldsBytes form g fs) ≡ lengthOf fs
   unfolding fieldsBytes

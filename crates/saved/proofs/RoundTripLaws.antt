@@ -8,30 +8,37 @@ use lib.Dec.{T}
 use lib.ListN.{getD, length}
 use borrow.Author.Tests.{eq-eqb}
 use Rattle.configuration.specs.Configuration.{dmf}
+use Rattle.counters.specs.Fits.{CountersFit}
+use Rattle.counters.proofs.CountersLaws.{countersOf}
 use Rattle.flags.specs.Byte.{flagsFit, flagsOf, vdqOf}
+use Rattle.flags.proofs.FlagsByteLaws.{byte-accepted, byte-back, byte-fits, flags-back, vdq-back}
+use Rattle.form.proofs.SignedLaws.{current-back, pair-back, pair-fits}
+use Rattle.form.specs.Form.{Ar, Configuration, Current, Dcr, Flags, FormNumber, Held, Lmd, Mode, Rests, Sixteenths, Temperature, Voltage}
+use Rattle.form.specs.Form.{Name, bytesOf, has, newest, numberOf, placeOf, savedLength, widthOf}
+use Rattle.form.specs.Signed.{currentOf, signedPair}
 use Rattle.gauge.specs.Accepted.{accepted}
 use Rattle.gauge.specs.Fits.{Fits}
 use Rattle.gauge.specs.declared.answer.Answer.{Answer}
 use Rattle.gauge.specs.declared.state.Gauge.{Gauge}
 use Rattle.gauge.proofs.AcceptedLaws.{sound}
+use Rattle.gauge.proofs.GaugeLaws.{gauge-alike}
+use Rattle.load.proofs.LoadLaws.{accepted-loads, charge-alike, form-first, form-flags, form-length, host-alike}
+use Rattle.load.proofs.LoadLaws.{loads, sample-alike}
+use Rattle.load.specs.EveryForm.{loadAnswer}
+use Rattle.load.specs.Load.{answerIn, formFits, loaded, loadedCharge, loadedCounters, loadedHost, loadedSample}
 use Rattle.numbers.proofs.LittleLaws.{number-fits, whole, write-back}
 use Rattle.numbers.specs.Little.{bytesAt, little}
 use Rattle.refusals.specs.Refusal as Refusal
 use Rattle.sample.specs.Sample.{currentAccepted}
-use Rattle.flags.proofs.FlagsByteLaws.{byte-accepted, byte-back, byte-fits, flags-back, vdq-back}
 use Rattle.saved.proofs.FormLaws.{field-found, fields-held, number-found}
-use Rattle.saved.proofs.EveryFormLaws.{newest-loads}
-use Rattle.saved.proofs.LoadLaws.{accepted-loads, charge-alike, form-first, form-flags, form-length, gauge-alike, host-alike}
-use Rattle.saved.proofs.LoadLaws.{loads, sample-alike}
 use Rattle.saved.proofs.SaveLaws.{saved-length}
-use Rattle.saved.proofs.SignedLaws.{current-back, pair-back, pair-fits}
-use Rattle.saved.specs.EveryForm.{loadAnswer}
-use Rattle.saved.specs.Form.{Ar, Configuration, Current, Dcr, Flags, FormNumber, Held, Lmd, Mode, Sixteenths, Temperature, Voltage}
-use Rattle.saved.specs.Form.{Name, bytesOf, has, newest, numberOf, placeOf, savedLength, widthOf}
-use Rattle.saved.specs.Load.{answerIn, formFits, loaded, loadedCharge, loadedHost, loadedSample}
 use Rattle.saved.specs.RoundTrip.{reloadedAnswer}
-use Rattle.saved.specs.Save.{bufferAfter, fieldBytes, flagsOfGauge, saveRefusal, savedBytes}
-use Rattle.saved.specs.Signed.{currentOf, signedPair}
+use Rattle.saved.specs.Save.{bufferAfter, fieldBytes, fieldsBytes, flagsOfGauge, saveRefusal, savedBytes}
+
+-- what is saved is in the newest form
+pub newest-loads : (g : Gauge) → loadAnswer (savedBytes g) ≡ answerIn newest (savedBytes g)
+unfolding loadAnswer savedBytes fieldsBytes fieldBytes
+newest-loads g = refl
 
 abbrev answer : ℕ → Gauge → Answer
 answer number gauge = record { number = number; gauge = gauge }
@@ -50,6 +57,7 @@ pub record Widths (g : Gauge) : Type 0 where
   pub temperature : g .sample .temperature < 256 ^ 2
   pub ar : g .host .ar < 256 ^ 2
   pub mode : g .host .mode < 256
+  pub counters : CountersFit (g .counters)
 
 widths-of : (g : Gauge) → Fits g → Widths g
 widths-of g f =
@@ -64,6 +72,7 @@ widths-of g f =
       temperature = f .temperature;
       ar = f .ar;
       mode = f .mode;
+      counters = f .counters;
     }
 
 module _ (g : Gauge) where
@@ -95,7 +104,7 @@ module _ (g : Gauge) where
 
     -- loading what was saved gives the same gauge
     pub loaded-saved : loaded newest (savedBytes g) ≡ g
-    unfolding loaded loadedCharge loadedSample loadedHost fieldBytes
+    unfolding loaded loadedCharge loadedSample loadedHost loadedCounters fieldBytes
     loaded-saved =
         let chgs = g .sample .current .charging in
         let vdq = g .charge .run .vdq in
@@ -106,6 +115,7 @@ module _ (g : Gauge) where
         (found Temperature (g .sample .temperature) tt refl (f .temperature)))
         (found Sixteenths (g .standby) tt refl (f .standby)) (ap flagsOf flags-found ∙ flags-back chgs vdq (g .flags))
         (host-alike (found Mode (g .host .mode) tt refl (f .mode)) (found Ar (g .host .ar) tt refl (f .ar)))
+        (ap countersOf (found Rests (g .counters .rests) tt refl (f .counters .rests)))
 
     saved-fits : formFits newest (savedBytes g) ≡ true
     unfolding formFits
@@ -139,7 +149,7 @@ module _ (bytes : List ℕ) (small : (k : ℕ) → getD bytes k 0 < 256) (f : fo
 
   -- saving what was loaded gives the same bytes
   pub saved-loaded : savedBytes (loaded newest bytes) ≡ bytes
-  unfolding loaded loadedCharge loadedSample loadedHost savedBytes fieldBytes
+  unfolding loaded loadedCharge loadedSample loadedHost loadedCounters savedBytes fieldBytes
   saved-loaded =
       let current = ap (little 2) (pair-back (numberOf Current newest bytes) (number-fits (placeOf Current (newest .fields)) bytes small)) in
       let flags = ap (little 1) (byte-back (numberOf Flags newest bytes) ((currentOf (numberOf Current newest bytes)) .charging) flags-small (form-flags newest bytes f)) in
@@ -155,7 +165,7 @@ module _ (bytes : List ℕ) (small : (k : ℕ) → getD bytes k 0 < 256) (f : fo
                 back Lmd,
                 (
                   back Sixteenths,
-                  (current ∙ back Current, (back Voltage, (back Temperature, (back Ar, (back Mode, (flags ∙ back Flags, tt)))))),
+                  (current ∙ back Current, (back Voltage, (back Temperature, (back Ar, (back Mode, (flags ∙ back Flags, (back Rests, tt))))))),
                 ),
               ),
             ),

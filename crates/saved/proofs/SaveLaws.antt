@@ -8,12 +8,12 @@ use lib.Dec.{eqb}
 use lib.ListN.{drop, length, replicate, take}
 use lib.Seq.{drop-length, sets, sets-eq, take-length}
 use borrow.Author.Tests.{eq-eqb, ne-eqb}
+use Rattle.form.specs.Form.{Flags, Sixteenths, newest, savedLength}
 use Rattle.gauge.specs.Accepted.{accepted}
 use Rattle.gauge.specs.declared.state.Gauge.{Gauge}
 use Rattle.refusals.specs.Refusal as Refusal
 use Rattle.saved.proofs.FormLaws.{fields-length, fields-put}
-use Rattle.saved.specs.Form.{Flags, Sixteenths, newest, savedLength}
-use Rattle.saved.specs.Put.{chargePut, headed, hostPut, numberPut, samplePut}
+use Rattle.saved.specs.Put.{chargePut, countersPut, headed, hostPut, numberPut, samplePut}
 use Rattle.saved.specs.Save.{bufferAfter, fieldBytes, flagsOfGauge, lengthRefusal, putAfter, saveRefusal, savedBytes}
 
 -- a list put over a whole one
@@ -31,19 +31,20 @@ module _ (g : Gauge) where
   saved-length = fields-length (newest .number) g (newest .fields)
 
   -- the parts, one after the other, are the fields of the form
-  parts-put : numberPut Flags (flagsOfGauge g) (hostPut (g .host) (samplePut (g .sample) (numberPut Sixteenths (g .standby)
-      (chargePut (g .charge) (headed (g .configuration))))))
+  parts-put : countersPut (g .counters) (numberPut Flags (flagsOfGauge g) (hostPut (g .host) (samplePut (g .sample) (numberPut Sixteenths (g .standby)
+      (chargePut (g .charge) (headed (g .configuration)))))))
       ≡ sets (replicate savedLength 0) 0 (savedBytes g)
-  unfolding headed chargePut samplePut hostPut savedBytes fieldBytes
+  unfolding headed chargePut samplePut hostPut countersPut savedBytes fieldBytes
   parts-put = fields-put (newest .number) g (replicate savedLength 0) 0 (newest .fields)
 
-  pub encoded-is : {b1 b2 b3 b4 b5 b6 : List ℕ} {byte : ℕ} → b1 ≡ headed (g .configuration) → b2 ≡ chargePut (g .charge) b1
+  pub encoded-is : {b1 b2 b3 b4 b5 b6 b7 : List ℕ} {byte : ℕ} → b1 ≡ headed (g .configuration) → b2 ≡ chargePut (g .charge) b1
       → b3 ≡ numberPut Sixteenths (g .standby) b2 → b4 ≡ samplePut (g .sample) b3 → b5 ≡ hostPut (g .host) b4 → byte ≡ flagsOfGauge g
-      → b6 ≡ numberPut Flags byte b5 → b6 ≡ savedBytes g
-  encoded-is {b5 = b5} e1 e2 e3 e4 e5 f e6 =
-      e6 ∙ ap (λ (n : ℕ). numberPut Flags n b5) f
+      → b6 ≡ numberPut Flags byte b5 → b7 ≡ countersPut (g .counters) b6 → b7 ≡ savedBytes g
+  encoded-is {b5 = b5} e1 e2 e3 e4 e5 f e6 e7 =
+      e7
+      ∙ ap (countersPut (g .counters)) (e6 ∙ ap (λ (n : ℕ). numberPut Flags n b5) f
       ∙ ap (numberPut Flags (flagsOfGauge g)) (e5 ∙ ap (hostPut (g .host)) (e4 ∙ ap (samplePut (g .sample)) (e3 ∙ ap (numberPut Sixteenths (g .standby))
-      (e2 ∙ ap (chargePut (g .charge)) e1))))
+      (e2 ∙ ap (chargePut (g .charge)) e1)))))
       ∙ parts-put ∙ whole-put (replicate savedLength 0) (savedBytes g) saved-length
 
 -- ---- a buffer

@@ -4,11 +4,12 @@ use Prim.Native.Nat.{ℕ}
 use lib.ListN.{replicate}
 use lib.Seq.{sets}
 use Rattle.charge.specs.declared.charge.Charge.{Charge}
+use Rattle.counters.specs.declared.counters.Counters.{Counters}
+use Rattle.form.specs.Form.{Ar, Configuration, Current, Dcr, FormNumber, Held, Lmd, Mode, Name, Rests, Temperature, Voltage, newest, placeOf, savedLength, widthOf}
+use Rattle.form.specs.Signed.{signedPair}
 use Rattle.host.specs.declared.host.Host.{Host}
 use Rattle.numbers.specs.Little.{bytesAt, little}
 use Rattle.sample.specs.declared.sample.Sample.{Sample}
-use Rattle.saved.specs.Form.{Ar, Configuration, Current, Dcr, FormNumber, Held, Lmd, Mode, Name, Temperature, Voltage, newest, placeOf, savedLength, widthOf}
-use Rattle.saved.specs.Signed.{signedPair}
 
 -- a number in its field; the other bytes keep
 abbrev pub numberPut : Name → ℕ → List ℕ → List ℕ
@@ -33,3 +34,7 @@ samplePut x bytes =
 -- "AR .. MODE"
 unfoldable pub hostPut : Host → List ℕ → List ℕ
 hostPut x bytes = numberPut Mode (x .mode) (numberPut Ar (x .ar) bytes)
+
+-- the count of rest windows
+unfoldable pub countersPut : Counters → List ℕ → List ℕ
+countersPut x bytes = numberPut Rests (x .rests) bytes

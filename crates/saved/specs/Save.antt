@@ -5,19 +5,15 @@ use mathlib.Core.List.{List, [], _∷_, _++_}
 use Prim.Native.Nat.{ℕ}
 use lib.Dec.{eqb}
 use lib.ListN.{length}
-use Rattle.charge.specs.declared.charge.Charge.{Charge}
 use Rattle.flags.specs.Byte.{flagsByte}
-use Rattle.flags.specs.declared.flags.Flags as Flag
+use Rattle.form.specs.Form.{Ar, Configuration, Current, Dcr, Flags, FormNumber, Held, Lmd, Mode, Rests, Sixteenths, Standby, Temperature, Voltage}
+use Rattle.form.specs.Form.{Field, Form, Name, newest, savedLength}
+use Rattle.form.specs.Signed.{signedPair}
 use Rattle.gauge.specs.Answer.{unlessRejected}
 use Rattle.gauge.specs.declared.state.Gauge.{Gauge}
-use Rattle.host.specs.declared.host.Host.{Host}
 use Rattle.numbers.specs.Little.{bytesAt, little}
 use Rattle.refusals.specs.Refusal as Refusal
-use Rattle.sample.specs.declared.sample.Sample.{Sample}
 use Rattle.standby.specs.Standby.{shown}
-use Rattle.saved.specs.Form.{Ar, Configuration, Current, Dcr, Flags, FormNumber, Held, Lmd, Mode, Sixteenths, Standby, Temperature, Voltage}
-use Rattle.saved.specs.Form.{Field, Form, Name, newest, savedLength}
-use Rattle.saved.specs.Signed.{signedPair}
 
 -- FLAGS of a gauge: CHGS is the direction of c, VDQ belongs to the run
 abbrev pub flagsOfGauge : Gauge → ℕ
@@ -38,6 +34,7 @@ fieldBytes form g Temperature width = little width (g .sample .temperature)
 fieldBytes form g Ar width = little width (g .host .ar)
 fieldBytes form g Mode width = little width (g .host .mode)
 fieldBytes form g Flags width = little width (flagsOfGauge g)
+fieldBytes form g Rests width = little width (g .counters .rests)
 
 -- the bytes of the fields, one after the other
 unfoldable pub fieldsBytes : ℕ → Gauge → List Field → List ℕ
@@ -67,8 +64,3 @@ saveRefusal g bufferLength = unlessRejected g (lengthRefusal bufferLength)
 -- every byte of the buffer afterwards
 unfoldable pub bufferAfter : Gauge → List ℕ → List ℕ
 bufferAfter g buffer = cond (eqb (saveRefusal g (length buffer)) Refusal.none) (savedBytes g) buffer
-
--- a gauge by its parts
-abbrev pub gaugeOf : List ℕ → Charge → Sample → ℕ → Flag.Flags → Host → Gauge
-gaugeOf configuration charge sample standby flags host =
-    record { configuration = configuration; charge = charge; sample = sample; standby = standby; flags = flags; host = host }

@@ -1,8 +1,4 @@
-// The saved gauge: its bytes in the newest form and back, and bytes of every older form read.
-pub mod every_form;
-pub mod form;
-pub mod load;
+// The saved gauge: its bytes in the newest form, and both round trips.
 mod place;
 pub mod round_trip;
 pub mod save;
-mod signed;

@@ -3,8 +3,8 @@ ghost use mathlib.Core.Path.{_≡_};
 ghost use Prim.Native.Nat.{_+_, _≤_};
 ghost use lib.Seq.{sets};
 ghost use Rattle.numbers.specs.Little.{little};
-ghost use Rattle.saved.specs.Form.{savedLength};
-use crate::form::LENGTH;
+ghost use Rattle.form.specs.Form.{savedLength};
+use form::form::LENGTH;
 
 // The bytes of the form, one value.
 pub(crate) type Saved = [u8; LENGTH as usize];

@@ -1,14 +1,14 @@
 // Both round trips, as contracts: a saved gauge reads back as itself, and what is read back saves as the same bytes.
 ghost use mathlib.Core.Path.{_≡_};
-ghost use Rattle.saved.specs.Form.{newest};
-ghost use Rattle.saved.specs.Load.{answerIn};
+ghost use Rattle.form.specs.Form.{newest};
+ghost use Rattle.load.specs.Load.{answerIn};
 ghost use Rattle.saved.specs.RoundTrip as Spec;
-use crate::every_form::load;
-use crate::form::LENGTH;
-use crate::load::load_newest;
 use crate::save::save;
+use form::form::LENGTH;
 use gauge::answer::Answer;
 use gauge::state::Gauge;
+use load::every_form::load;
+use load::load::load_newest;
 use refusals::NONE;
 
 // Saved and loaded again: the same gauge, or 14 for one that is rejected.

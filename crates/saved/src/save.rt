@@ -1,31 +1,34 @@
 // Saving a gauge: its fields are put among the bytes one after the other, in the order of the form.
 ghost use mathlib.Core.Path.{_≡_};
 ghost use lib.ListN.{length};
+ghost use Rattle.gauge.specs.Parts.{gaugeOf};
 ghost use Rattle.saved.specs.Put as Put;
 ghost use Rattle.saved.specs.Save as Spec;
-use crate::form::AT_AR;
-use crate::form::AT_CONFIGURATION;
-use crate::form::AT_CURRENT;
-use crate::form::AT_DCR;
-use crate::form::AT_FLAGS;
-use crate::form::AT_FORM;
-use crate::form::AT_HELD;
-use crate::form::AT_LMD;
-use crate::form::AT_MODE;
-use crate::form::AT_STANDBY;
-use crate::form::AT_TEMPERATURE;
-use crate::form::AT_VOLTAGE;
-use crate::form::FORM;
-use crate::form::LENGTH;
 use crate::place::Saved;
 use crate::place::put_eight;
 use crate::place::put_one;
 use crate::place::put_two;
-use crate::signed::signed_pair;
 use charge::charge::Charge;
 use configuration::configuration::Configuration;
+use counters::counters::Counters;
 use flags::byte::flags_byte;
 use flags::flags::Flags;
+use form::form::AT_AR;
+use form::form::AT_CONFIGURATION;
+use form::form::AT_CURRENT;
+use form::form::AT_DCR;
+use form::form::AT_FLAGS;
+use form::form::AT_FORM;
+use form::form::AT_HELD;
+use form::form::AT_LMD;
+use form::form::AT_MODE;
+use form::form::AT_RESTS;
+use form::form::AT_STANDBY;
+use form::form::AT_TEMPERATURE;
+use form::form::AT_VOLTAGE;
+use form::form::FORM;
+use form::form::LENGTH;
+use form::signed::signed_pair;
 use gauge::state::Gauge;
 use host::host::Host;
 use refusals::BUFFER_LENGTH;
@@ -78,6 +81,12 @@ fn put_host(bytes: &mut Saved, host: Host)
     put_one(bytes, AT_MODE, host.mode);
 }
 
+fn put_counters(bytes: &mut Saved, counters: Counters)
+    ensures { λ _. ⌜ now (bytes .exit) ≡ Put.countersPut counters (now (bytes .entry)) ⌝ }
+{
+    put_two(bytes, AT_RESTS, counters.rests);
+}
+
 // The bytes of a gauge, accepted or not.
 fn encoded(gauge: Gauge) -> Saved
     ensures { λ r. ⌜ r ≡ Spec.savedBytes gauge ⌝ }
@@ -87,6 +96,7 @@ fn encoded(gauge: Gauge) -> Saved
     let sample = gauge.sample;
     let flags = gauge.flags;
     let host = gauge.host;
+    let counters = gauge.counters;
     let byte = flags_byte(sample.current.charging, charge.run.vdq, flags);
     let mut bytes = headed(configuration);
     put_charge(&mut bytes, charge);
@@ -94,6 +104,7 @@ fn encoded(gauge: Gauge) -> Saved
     put_sample(&mut bytes, sample);
     put_host(&mut bytes, host);
     put_one(&mut bytes, AT_FLAGS, byte);
+    put_counters(&mut bytes, counters);
     bytes
 }
 
@@ -118,10 +129,11 @@ pub fn put(
     standby: u16,
     flags: Flags,
     host: Host,
+    counters: Counters,
     buffer: &mut [u8],
 ) -> u32
     ensures number { λ r. ⌜ r ≡ Spec.lengthRefusal (length (now (buffer .entry))) ⌝ }
-    ensures bytes { λ _. ⌜ now (buffer .exit) ≡ Spec.putAfter (Spec.gaugeOf configuration charge sample standby flags host) (now (buffer .entry)) ⌝ }
+    ensures bytes { λ _. ⌜ now (buffer .exit) ≡ Spec.putAfter (gaugeOf configuration charge sample standby flags host counters) (now (buffer .entry)) ⌝ }
 {
     let gauge = Gauge {
         configuration,
@@ -130,6 +142,7 @@ pub fn put(
         standby,
         flags,
         host,
+        counters,
     };
     store(gauge, buffer)
 }

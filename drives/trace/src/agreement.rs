@@ -2,7 +2,7 @@
 
 use crate::line;
 use crate::second::Second;
-use crate::shown::{shown, time, would_be, REGISTERS};
+use crate::shown::{estimated, shown, time, would_be, REGISTERS};
 use crate::step::Step;
 use crate::table::{self, Row};
 use reference::gauge::Gauge;
@@ -27,6 +27,8 @@ fn step(second: &mut Second, row: &Row) -> Result<Step, String> {
     same("read", &row.bytes.join(" "), &read.join(" "))?;
     let preview = second.preview(&step.line).map_or(String::new(), |(command, registers)| would_be(command, &registers));
     same("preview", &row.would_be.join(" "), &preview)?;
+    let estimate = step.estimate().map_or(String::new(), |(_, estimate)| estimated(&estimate));
+    same("estimate", &row.estimate.join(" "), &estimate)?;
     if let (Some(gauge), Some(history)) = (&step.gauge, second.history()) {
         demand_3(gauge, history)?;
     }
@@ -67,7 +69,7 @@ mod tests {
         let steps = steps(TABLE).unwrap();
         assert_eq!(
             steps.iter().map(|step| (step.to, step.number, step.nac())).collect::<Vec<_>>()[3..],
-            [(3, 0, 1019), (3, 5, 1019), (3, 0, 1019), (3, 0, 1019)]
+            [(3, 0, 1019), (3, 5, 1019), (3, 0, 1019), (3, 0, 1019), (425, 0, 1019), (425, 0, 1019)]
         );
     }
 
@@ -107,6 +109,20 @@ mod tests {
         assert_eq!(what("would be", "will be"), format!("row 9 (preview nac 900): preview is ``, `{own}`"));
         let write = what("preview nac 900", "write 0x02 0x00");
         assert_eq!(write, format!("row 9 (write 0x02 0x00): preview is `{own}`, ``"));
+    }
+
+    #[test]
+    fn a_wrong_estimate() {
+        let what = |from, to| refused(from, to).replace("the second implementation has ", "");
+        assert_eq!(what("849 d", "848 d"), "row 12 (estimate 4003): estimate is `848 distance -170`, `849 distance -170`");
+        assert_eq!(what("-170", "170"), "row 12 (estimate 4003): estimate is `849 distance 170`, `849 distance -170`");
+        assert_eq!(what(" estimate   8", " guess   8"), "row 12 (estimate 4003): estimate is ``, `849 distance -170`");
+        assert_eq!(
+            what("estimate 4003", "estimate 3999"),
+            "row 12 (estimate 3999): estimate is `849 distance -170`, `843 distance -176`"
+        );
+        assert_eq!(what("estimate 4003", "read 0x00 1"), "row 12 (read 0x00 1): read is ``, `00`");
+        assert_eq!(what("estimate 4003", "estimate 4201"), "row 12 (estimate 4201): number is `0`, `16`");
     }
 
     #[test]

@@ -1,4 +1,4 @@
-//! A table for the tests: the bench pack's example of paper 01, then a refused window, a read and a preview.
+//! A table for the tests: the bench pack's example of paper 01, then a refused window, a read, a preview, a rest and an estimate.
 
 pub const HEADING: &str = "time number NAC LMD RSOC FLAGS CAC TTE MODE AR ARTTE TEMP VOLT FCAC IAV TTF SI STTE CEDV call\n";
 
@@ -13,7 +13,10 @@ pub const TABLE: &str = "\
 # 0x0C: FB 03
 0:00:15.36      0  1019  1024   99       CI+VDQ   892    17 0x40     0 65535  1192  3600   897  3000 65535    10  6114  3000 preview nac 900
 #        would be   900  1024   87           CI   773    15 0x40   900    58  1192  3600   897  3000 65535    10  5400  3000 by WRTNAC
-# 7 calls, 1 refused
+0:36:16.00      0  1019  1024   99       CI+VDQ  1019 65535 0x40     0 65535  1192  3600  1024     0 65535    10  6114  3000 rest 422 1192
+0:36:16.00      0  1019  1024   99       CI+VDQ  1019 65535 0x40     0 65535  1192  3600  1024     0 65535    10  6114  3000 estimate 4003
+#        estimate   849 distance -170
+# 9 calls, 1 refused
 # refused with 5 (temperature out of range): 1, first standard input:5
 ";
 

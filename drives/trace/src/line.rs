@@ -85,6 +85,7 @@ fn call(words: &[&str]) -> Option<Call> {
             Call::Read { address: number(address)?, count: number(count)?, reply_length: REGISTERS as usize, place: 0 }
         }
         ["preview", key] => preview(number(key)?),
+        ["estimate", voltage] => Call::Estimate { voltage: number(voltage)? },
         _ => return None,
     })
 }
@@ -115,6 +116,7 @@ mod tests {
         assert_eq!(parse("read 0x0C 2"), Ok(Line::One(read)));
         assert_eq!(parse("open 04 5E"), Ok(Line::Open(vec![0x04, 0x5E])));
         assert_eq!(parse("load 01"), Ok(Line::Load(vec![1])));
+        assert_eq!(parse("estimate -5"), Ok(Line::One(Call::Estimate { voltage: -5 })));
     }
 
     #[test]
@@ -147,6 +149,9 @@ mod tests {
             assert!(parse(text).is_err(), "{text}");
         }
         for text in ["preview", "preview 256", "preview nac", "preview done 1", "preview read 0x0C 2", "preview preview 1"] {
+            assert!(parse(text).is_err(), "{text}");
+        }
+        for text in ["estimate", "estimate 3700 1", "estimate 2147483648", "preview estimate 3700"] {
             assert!(parse(text).is_err(), "{text}");
         }
     }

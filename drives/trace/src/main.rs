@@ -4,8 +4,8 @@
 //!
 //! TABLE is what `replay --all` printed for any list. The calls of its rows are made on the second implementation, and the first row where
 //! anything that is shown differs, or where the history of demand 3 does, is an error. The tables go to FOLDER: `curves`, `bands`,
-//! `points`, `dark`, `refused` and `marks`. With `--rounded` also `beside` and `beside-marks`, for `compare-rounded`; TRUE has the true
-//! charge of the cell after each window.
+//! `points`, `dark`, `refused`, `estimates` and `marks`. With `--rounded` also `beside` and `beside-marks`, for `compare-rounded`; TRUE
+//! has the true charge of the cell after each window.
 
 mod agreement;
 mod axis;
@@ -63,6 +63,8 @@ fn write(steps: &[Step], folder: &Path) -> Result<(), String> {
     put(folder, "points", &lines(&points, |(kind, hour, nac)| format!("{kind} {hour:.6} {nac}")))?;
     put(folder, "dark", &lines(&dark, |(hour, labelled)| format!("{hour:.6} {labelled}")))?;
     put(folder, "refused", &lines(&refused, |hour| format!("{hour:.6}")))?;
+    let estimates = lines(&tables::estimates(steps), |(hour, v, counts, distance)| format!("{hour:.6} {v} {counts} {distance}"));
+    put(folder, "estimates", &estimates)?;
     let made = points.iter().map(|point| point.0).collect();
     let bands = bands.iter().map(|band| band.0).collect();
     put(folder, "marks", &Marks { steps, refused: refused.len(), dark: dark.len(), made, bands }.text())

@@ -123,7 +123,7 @@ mod tests {
     fn without_a_gauge_every_call_answers_14() {
         let numbers = |lines| steps(lines).iter().map(|step| step.number).collect::<Vec<_>>();
         assert_eq!(numbers(&["open 04", "window 1 2 3", "done", "load 00", "read 0x00 1"]), [1, 14, 14, 14, 14]);
-        assert_eq!(numbers(&["open 04", "preview 0xA9", "preview done"]), [1, 14, 14]);
+        assert_eq!(numbers(&["open 04", "preview 0xA9", "preview done", "estimate 3700"]), [1, 14, 14, 14]);
         assert_eq!(numbers(&[OPEN, "open 00 5E 77 05 21 10 00 00 6C 15", "window 9 3700 1192"]), [0, 2, 0]);
     }
 
@@ -142,6 +142,17 @@ mod tests {
         assert_eq!(steps.iter().map(|step| step.number).collect::<Vec<_>>(), [0, 0, 0, 11, 9, 0, 0]);
         assert!(steps[2..5].iter().all(|step| step.gauge == steps[1].gauge && step.points.is_empty() && !step.moves()));
         assert_eq!(steps[6].gauge, steps[5].gauge);
+    }
+
+    #[test]
+    fn an_estimate_moves_nothing() {
+        let steps = steps(&[OPEN, "rest 421 1192", "estimate 3700", "rest 1 1192", "estimate 3700", "estimate 4201"]);
+        assert_eq!(steps.iter().map(|step| step.number).collect::<Vec<_>>(), [0, 0, 15, 0, 0, 16]);
+        assert_eq!(
+            steps.iter().map(|step| step.estimate().map(|(_, found)| found.counts)).collect::<Vec<_>>()[2..],
+            [None, None, Some(358), None]
+        );
+        assert!(steps[4].gauge == steps[3].gauge && steps[4].points.is_empty() && !steps[4].moves());
     }
 
     #[test]

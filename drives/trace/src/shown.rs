@@ -1,5 +1,6 @@
 //! The registers and times as the table shows them.
 
+use reference::estimate::Estimate;
 use reference::gauge::{CHGS, CI, EDV1, EDVF, VDQ};
 use reference::registers;
 use reference::saved;
@@ -63,6 +64,11 @@ pub fn shown(saved: Option<&[u8; saved::LENGTH]>) -> Vec<String> {
 /// What a preview shows: all registers as they would stand, and the command's number.
 pub fn would_be(command: u8, all: &[u8]) -> String {
     format!("{} by {}", values(all).join(" "), COMMANDS[usize::from(command) - 1])
+}
+
+/// What an estimate shows: the counts, and how far they are from NAC.
+pub fn estimated(estimate: &Estimate) -> String {
+    format!("{} distance {}", estimate.counts, estimate.distance)
 }
 
 fn values(all: &[u8]) -> Vec<String> {

@@ -1,6 +1,7 @@
 //! One call of a list and how the gauge stands after it.
 
 use crate::line::Line;
+use reference::estimate::{self, Estimate};
 use reference::fixing::FixingPoints;
 use reference::gauge::Gauge;
 use reference::history::Call;
@@ -26,9 +27,19 @@ impl Step {
         self.number != 0
     }
 
-    /// Not refused, and neither a read nor a preview: the steps from which curves, bands and points are drawn.
+    /// Not refused, and no read, preview or estimate: the steps from which curves, bands and points are drawn.
     pub fn moves(&self) -> bool {
-        !self.refused() && !matches!(self.line, Line::One(Call::Read { .. } | Call::Preview { .. }) | Line::Preview(_))
+        let looks =
+            matches!(self.line, Line::One(Call::Read { .. } | Call::Preview { .. } | Call::Estimate { .. }) | Line::Preview(_));
+        !self.refused() && !looks
+    }
+
+    /// The voltage of an estimate that the gauge accepts, and what it gives; none for another call.
+    pub fn estimate(&self) -> Option<(i32, Estimate)> {
+        match (&self.line, &self.gauge) {
+            (&Line::One(Call::Estimate { voltage }), Some(gauge)) => Some((voltage, estimate::estimate(gauge, voltage).ok()?)),
+            _ => None,
+        }
     }
 
     pub fn flags(&self) -> u8 {

@@ -16,10 +16,15 @@ pub struct Row<'a> {
     pub bytes: Vec<&'a str>,
     /// What stands below the row of an accepted preview: the registers in the order of the heading, `by`, the command.
     pub would_be: Vec<&'a str>,
+    /// What stands below the row of an accepted estimate: counts, `distance`, the distance.
+    pub estimate: Vec<&'a str>,
 }
 
 /// How the line below an accepted preview begins.
 const WOULD_BE: &str = "would be ";
+
+/// The same of an accepted estimate.
+const ESTIMATE: &str = "estimate ";
 
 /// The rows of a table. A table that does not end with the number of its calls is cut off, and an error.
 pub fn rows(table: &str) -> Result<Vec<Row<'_>>, String> {
@@ -31,11 +36,13 @@ pub fn rows(table: &str) -> Result<Vec<Row<'_>>, String> {
     let mut rows: Vec<Row> = Vec::new();
     let mut counted = None;
     for (at, text) in lines {
-        match (text.strip_prefix('#'), rows.last_mut()) {
-            (None, _) => rows.push(row(at + 1, text)?),
-            (Some(remark), Some(read)) if remark.starts_with(" 0x") => read.bytes.extend(bytes(remark)),
-            (Some(remark), Some(preview)) if remark.trim_start().starts_with(WOULD_BE) => preview.would_be = would_be(remark),
-            (Some(remark), _) => counted = counted.or_else(|| calls(remark)),
+        match text.strip_prefix('#') {
+            None => rows.push(row(at + 1, text)?),
+            Some(remark) => {
+                if !rows.last_mut().map_or(false, |above| takes(above, remark)) {
+                    counted = counted.or_else(|| calls(remark));
+                }
+            }
         }
     }
     match counted {
@@ -59,17 +66,23 @@ fn row(line: usize, text: &str) -> Result<Row<'_>, String> {
         rest = after;
     }
     let (time, number, registers) = (words[0], words[1], words.split_off(2));
-    Ok(Row { line, time, number, registers, call: rest.trim(), bytes: Vec::new(), would_be: Vec::new() })
+    Ok(Row { line, time, number, registers, call: rest.trim(), bytes: Vec::new(), would_be: Vec::new(), estimate: Vec::new() })
 }
 
-/// The bytes of ` 0x0C: FB 03`.
-fn bytes(remark: &str) -> impl Iterator<Item = &str> {
-    remark.split_ascii_whitespace().skip(1)
-}
-
-/// The words of `  would be 900 1024 .. by WRTNAC` after the first two.
-fn would_be(remark: &str) -> Vec<&str> {
-    remark.split_ascii_whitespace().skip(2).collect()
+/// What an accepted call hands out stands below its row: ` 0x0C: FB 03`, `  would be 900 1024 .. by WRTNAC` or `  estimate 849 distance
+/// -170`. Whether the remark is one of these; then the row has its words.
+fn takes<'a>(row: &mut Row<'a>, remark: &'a str) -> bool {
+    let text = remark.trim_start();
+    if remark.starts_with(" 0x") {
+        row.bytes.extend(remark.split_ascii_whitespace().skip(1));
+    } else if let Some(registers) = text.strip_prefix(WOULD_BE) {
+        row.would_be = registers.split_ascii_whitespace().collect();
+    } else if let Some(estimate) = text.strip_prefix(ESTIMATE) {
+        row.estimate = estimate.split_ascii_whitespace().collect();
+    } else {
+        return false;
+    }
+    true
 }
 
 /// The number of ` 7125 calls, none refused`.
@@ -87,12 +100,14 @@ mod tests {
     #[test]
     fn columns_by_their_place() {
         let rows = rows(TABLE).unwrap();
-        assert_eq!(rows.len(), 7);
+        assert_eq!(rows.len(), 9);
         assert_eq!((rows[2].line, rows[2].time, rows[2].number), (4, "0:00:10.24", "0"));
         assert_eq!((rows[2].registers[0], rows[2].registers[16], rows[2].call), ("1024", "3000", "window 20 4150 1192"));
         assert_eq!(rows[5].bytes, ["FB", "03"]);
         assert_eq!((rows[6].would_be.len(), rows[6].would_be[0], &rows[6].would_be[17..]), (19, "900", &["by", "WRTNAC"][..]));
-        assert!(rows[..6].iter().all(|row| row.would_be.is_empty()));
+        assert!(rows.iter().enumerate().all(|(at, row)| row.would_be.is_empty() == (at != 6)));
+        assert_eq!(rows[8].estimate, ["849", "distance", "-170"]);
+        assert!(rows[..8].iter().all(|row| row.estimate.is_empty()));
     }
 
     #[test]
@@ -104,9 +119,9 @@ mod tests {
 
     #[test]
     fn a_table_that_is_cut_off_is_an_error() {
-        let cut = TABLE.split("# 7 calls").next().unwrap();
+        let cut = TABLE.split("# 9 calls").next().unwrap();
         assert_eq!(rows(cut).unwrap_err(), "the table does not end with its number of calls");
-        let short = TABLE.replace("# 7 calls", "# 8 calls");
-        assert_eq!(rows(&short).unwrap_err(), "the table has 7 rows, but 8 calls were made");
+        let short = TABLE.replace("# 9 calls", "# 8 calls");
+        assert_eq!(rows(&short).unwrap_err(), "the table has 9 rows, but 8 calls were made");
     }
 }

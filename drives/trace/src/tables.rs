@@ -91,6 +91,12 @@ pub fn refused(steps: &[Step]) -> Vec<f64> {
     steps.iter().filter(|step| step.refused()).map(|step| hours(step.to)).collect()
 }
 
+/// For each accepted estimate: hour, voltage, counts, distance from NAC.
+pub fn estimates(steps: &[Step]) -> Vec<(f64, i32, i32, i32)> {
+    let row = |step: &Step| step.estimate().map(|(voltage, found)| (hours(step.to), voltage, found.counts, found.distance));
+    steps.iter().filter_map(row).collect()
+}
+
 #[cfg(test)]
 mod tests {
     use super::*;
@@ -143,6 +149,13 @@ mod tests {
         let of = |number| bands(&moves).into_iter().find(|band| band.0 == number);
         assert_eq!(of(6).map(|(_, from, to)| (from, to)), Some((0.0, hours(703))));
         assert_eq!(of(2).map(|(_, from, to)| (from, to)), Some((0.0, hours(703))));
+    }
+
+    #[test]
+    fn estimates_of_a_list() {
+        let asked = ["estimate 3703", "estimate 2999", "estimate 4200"];
+        let steps = examples::steps(&[&[LINES[0], "nac 500", asked[0], "rest 703 1192"], &asked[..]].concat());
+        assert_eq!(estimates(&steps), [(hours(703), 3703, 358, -141), (hours(703), 4200, 1024, 525)]);
     }
 
     #[test]

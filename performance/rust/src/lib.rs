@@ -73,3 +73,16 @@ pub unsafe extern "C" fn gauge_preview(
 ) -> u32 {
     reference::calls::preview(from_raw_parts(saved, saved_length), key, from_raw_parts_mut(reply, reply_length), command)
 }
+
+/// # Safety
+/// The pointer is valid for its length, and neither number lies in its buffer or overlaps the other.
+#[no_mangle]
+pub unsafe extern "C" fn gauge_estimate(
+    saved: *const u8,
+    saved_length: usize,
+    voltage: i32,
+    estimate: &mut u16,
+    distance: &mut i32,
+) -> u32 {
+    reference::calls::estimate(from_raw_parts(saved, saved_length), voltage, estimate, distance)
+}

@@ -2,25 +2,26 @@
 use mathlib.Core.Path.{refl}
 use Rattle.charge.specs.Charge.{chargeAccepted, openedCharge}
 use Rattle.configuration.specs.Configuration.{openedMode}
+use Rattle.counters.specs.Counters.{openedCounters}
 use Rattle.flags.specs.Byte.{flagsByte, flagsFit, flagsOf}
+use Rattle.form.specs.Signed.{currentOf, signedPair}
 use Rattle.gauge.specs.Accepted.{accepted}
 use Rattle.gauge.specs.Opening.{opened}
 use Rattle.grains.specs.Run.{runAccepted}
 use Rattle.host.specs.Host.{openedHost}
+use Rattle.load.specs.EveryForm.{loadAnswer}
+use Rattle.load.specs.Load.{acceptedAnswer, answerIn, formFits, loaded, loadedCharge, loadedCounters, loadedHost, loadedSample, rejectedAnswer}
 use Rattle.sample.specs.Limits.{zeroOrWithin}
 use Rattle.sample.specs.Sample.{currentAccepted, noSample, sampleAccepted}
-use Rattle.saved.specs.EveryForm.{loadAnswer}
-use Rattle.saved.specs.Load.{acceptedAnswer, answerIn, formFits, loaded, loadedCharge, loadedHost, loadedSample, rejectedAnswer}
 use Rattle.saved.specs.Save.{fieldBytes, fieldsBytes, savedBytes}
-use Rattle.saved.specs.Signed.{currentOf, signedPair}
 use Rattle.standby.specs.Standby.{standbyAccepted}
 use Rattle.examples.proofs.proved_forms.Statement.{statement}
 use Rattle.examples.proofs.proved_forms.Tie as tie
 
 returns : tie.Need-returns
 unfolding chargeAccepted openedCharge openedMode flagsByte flagsFit flagsOf accepted opened runAccepted openedHost zeroOrWithin currentAccepted
-    noSample sampleAccepted loadAnswer acceptedAnswer answerIn formFits loaded loadedCharge loadedHost loadedSample rejectedAnswer fieldBytes
-    fieldsBytes savedBytes currentOf signedPair standbyAccepted
+    noSample sampleAccepted loadAnswer acceptedAnswer answerIn formFits loaded loadedCharge loadedCounters loadedHost loadedSample rejectedAnswer fieldBytes
+    fieldsBytes savedBytes currentOf signedPair standbyAccepted openedCounters
 returns c =
     record {
       length-41 = refl;
@@ -34,10 +35,20 @@ returns c =
       form-1-65535 = refl;
       form-2-most = refl;
       form-2-above = refl;
+      length-43 = refl;
+      form-3-read = refl;
+      form-3-most = refl;
+      form-3-taken = refl;
+      form-3-short = refl;
+      form-1-rests = refl;
+      form-2-rests = refl;
+      form-2-long = refl;
       form-0 = refl;
-      form-3 = refl;
+      form-4 = refl;
+      taken-3 = refl;
       taken-2 = refl;
       taken-1 = refl;
+      saved-1 = refl;
       saved-2 = refl;
     }
 

@@ -20,12 +20,17 @@ opened-requires-2 c κs = search needs
 opened-requires-3 : tie.Need-opened-requires-3
 opened-requires-3 c κs = search needs
 
+opened-requires-4 : tie.Need-opened-requires-4
+opened-requires-4 c κs = search needs
+
 returns : tie.Need-returns
 unfolding opened
 returns c =
-    let p = c .before .before in
+    let h = c .before in
+    let p = h .before .before in
     let q = p .before .before in
-    gauge-is (q .opened .ensures) (p .before .none .ensures) (p .opened-standby .ensures) (c .before .opened2 .ensures) (c .opened3 .ensures)
+    gauge-is (q .opened .ensures) (p .before .none .ensures) (p .opened-standby .ensures) (h .before .opened2 .ensures) (h .opened3 .ensures)
+    (c .opened4 .ensures)
 
 pub opened-spec : {M : Type 1} → statement M
 opened-spec =
@@ -36,4 +41,5 @@ opened-spec =
     opened-standby-requires
     opened-requires-2
     opened-requires-3
+    opened-requires-4
     returns)

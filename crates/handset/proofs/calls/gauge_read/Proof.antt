@@ -2,7 +2,7 @@
 use mathlib.Core.Path.{_∙_, sym}
 use denote.Ref.{now}
 use borrow.Author.Tests.{not-true, not-false}
-use Rattle.saved.proofs.LoadLaws.{decoded-is}
+use Rattle.load.proofs.LoadLaws.{decoded-is}
 use Rattle.handset.proofs.LookLaws.{look-leaves, look-number, misfit-leaves, misfit-number}
 use Rattle.handset.proofs.ReadLaws.{read-keeps, read-rejects}
 use borrow.Author.Needs.{needs}

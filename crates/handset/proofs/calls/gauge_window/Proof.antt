@@ -3,7 +3,7 @@ use mathlib.Core.Path.{_∙_, sym}
 use denote.Ref.{now}
 use borrow.Author.Tests.{not-true, not-false}
 use Rattle.numbers.proofs.SignedLaws.{narrow}
-use Rattle.saved.proofs.LoadLaws.{decoded-is}
+use Rattle.load.proofs.LoadLaws.{decoded-is}
 use Rattle.handset.specs.Calls.{windowCall}
 use Rattle.handset.proofs.CallLaws.{kept, misfit, window-rejects, windowed}
 use borrow.Author.Needs.{needs}

@@ -4,8 +4,8 @@ use denote.Ref.{now}
 use native.Mathlib.Omega.{arith}
 use lib.ListN.{length}
 use borrow.Author.Tests.{not-true, not-false}
-use Rattle.saved.proofs.LoadLaws.{decoded-is, form-length}
-use Rattle.saved.specs.Form.{newest}
+use Rattle.load.proofs.LoadLaws.{decoded-is, form-length}
+use Rattle.form.specs.Form.{newest, savedLength}
 use Rattle.handset.specs.Calls.{writeCall}
 use Rattle.handset.proofs.CallLaws.{misfit}
 use Rattle.handset.proofs.StoreLaws.{at-ctrl, store-beyond, store-done, store-rejected}
@@ -81,7 +81,7 @@ slice-write-saved c =
     let p = c .before .before .before in
     let i = p .before .before .before in
     let f = i .before in
-    let l : length (now (f .before .before .before .before .args .saved)) ≡ 41 =
+    let l : length (now (f .before .before .before .before .args .saved)) ≡ savedLength =
     form-length newest _ (sym (f .form-fits .ensures) ∙ not-false _ (i .if2 .left)) in
     omega arith
 

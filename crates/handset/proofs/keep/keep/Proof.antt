@@ -19,7 +19,7 @@ same-length c = search needs
 returns-2 : tie.Need-returns-2
 returns-2 c =
     let p = c .before .before in
-    let q = p .before .before .before in
+    let q = p .before .before .before .before in
     let i = q .before .before .before .before in
     let a = i .before .before .before .args in
     keep-put (a .answer) (now (a .saved)) (i .if1 .left) (p .put .ensures .0) (p .put .ensures .1)

@@ -2,7 +2,7 @@
 use mathlib.Core.Path.{_∙_, sym, ap}
 use denote.Ref.{now}
 use borrow.Author.Tests.{not-true, not-false}
-use Rattle.saved.proofs.LoadLaws.{decoded-is}
+use Rattle.load.proofs.LoadLaws.{decoded-is}
 use Rattle.handset.specs.Calls.{writeCall}
 use Rattle.handset.proofs.CallLaws.{kept, misfit, write-rejects}
 use borrow.Author.Needs.{needs}

@@ -2,6 +2,7 @@
 use mathlib.Core.Path.{refl}
 use native.Mathlib.Omega.{arith}
 use lib.ListN.{replicate}
+use Rattle.form.specs.Form.{savedLength}
 use Rattle.saved.proofs.RoundTripLaws.{Widths, reloaded-done, reloaded-refused}
 use borrow.Author.Needs.{needs}
 use Rattle.saved.proofs.round_trip.reloaded.Statement.{statement}
@@ -20,6 +21,7 @@ fits c =
       temperature = omega arith;
       ar = omega arith;
       mode = omega arith;
+      counters = record { rests = omega arith };
     }
 
 slice-aggregate-save : tie.Need-slice-aggregate-save
@@ -31,7 +33,7 @@ save-requires c κs = search needs
 returns : tie.Need-returns
 returns c =
     let p = c .before .before in
-    reloaded-refused (p .before .before .args .gauge) (replicate 41 0) refl (p .save .ensures .0)
+    reloaded-refused (p .before .before .args .gauge) (replicate savedLength 0) refl (p .save .ensures .0)
 
 slice-aggregate-load : tie.Need-slice-aggregate-load
 slice-aggregate-load c = search needs
@@ -43,7 +45,7 @@ returns-2 : tie.Need-returns-2
 returns-2 c =
     let i = c .before .before in
     let p = i .before .before in
-    reloaded-done (p .before .before .args .gauge) (replicate 41 0) refl (fits (p .before .before)) (p .save .ensures .0) (i .if1 .left) (p .save .ensures .1) (c .load .ensures)
+    reloaded-done (p .before .before .args .gauge) (replicate savedLength 0) refl (fits (p .before .before)) (p .save .ensures .0) (i .if1 .left) (p .save .ensures .1) (c .load .ensures)
 
 pub reloaded-spec : {M : Type 1} → statement M
 reloaded-spec =

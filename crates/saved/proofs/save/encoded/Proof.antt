@@ -25,17 +25,23 @@ put-host-requires c κs = search needs
 put-one-requires : tie.Need-put-one-requires
 put-one-requires c κs = search needs
 
+put-counters-requires : tie.Need-put-counters-requires
+put-counters-requires c κs = search needs
+
 returns : tie.Need-returns
 returns c =
-    let p5 = c .before .before in
+    let p6 = c .before .before in
+    let p5 = p6 .before .before in
     let p4 = p5 .before .before in
     let p3 = p4 .before .before in
     let p2 = p3 .before .before in
     let p1 = p2 .before .before in
     let f = p1 .before in
-    let g = f .before .before .before .before .before in
+    let h = f .before .before .before in
+    let g = h .before .before .before in
     encoded-is (g .before .args .gauge) (p1 .headed .ensures) (p2 .put-charge .ensures) (p3 .put-two .ensures)
-    (p4 .put-sample .ensures) (p5 .put-host .ensures) (f .flags-byte .ensures) (c .put-one .ensures)
+    (p4 .put-sample .ensures) (p5 .put-host .ensures) (f .flags-byte .ensures) (p6 .put-one .ensures)
+    (c .put-counters .ensures)
 
 pub encoded-spec : {M : Type 1} → statement M
 encoded-spec =
@@ -48,4 +54,5 @@ encoded-spec =
     put-sample-requires
     put-host-requires
     put-one-requires
+    put-counters-requires
     returns)

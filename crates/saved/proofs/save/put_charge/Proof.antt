@@ -1,6 +1,6 @@
 -- The fields, one after the other. Assumes nothing.
 use mathlib.Core.Path.{_∙_, ap}
-use Rattle.saved.specs.Form.{Dcr, Lmd}
+use Rattle.form.specs.Form.{Dcr, Lmd}
 use Rattle.saved.specs.Put.{chargePut, numberPut}
 use borrow.Author.Needs.{needs}
 use Rattle.saved.proofs.save.put_charge.Statement.{statement}

@@ -1,6 +1,6 @@
 -- The fields, one after the other. Assumes nothing.
 use mathlib.Core.Path.{_∙_, ap}
-use Rattle.saved.specs.Form.{Mode}
+use Rattle.form.specs.Form.{Mode}
 use Rattle.saved.specs.Put.{hostPut, numberPut}
 use borrow.Author.Needs.{needs}
 use Rattle.saved.proofs.save.put_host.Statement.{statement}

@@ -2,7 +2,7 @@
 use mathlib.Core.Path.{_∙_, ap}
 use Prim.Native.Nat.{ℕ}
 use denote.Ref.{now}
-use Rattle.saved.specs.Form.{Current, Temperature, Voltage}
+use Rattle.form.specs.Form.{Current, Temperature, Voltage}
 use Rattle.saved.specs.Put.{numberPut, samplePut}
 use borrow.Author.Needs.{needs}
 use Rattle.saved.proofs.save.put_sample.Statement.{statement}

@@ -28,17 +28,21 @@ obeyed-requires-2 c κs = search needs
 obeyed-requires-3 : tie.Need-obeyed-requires-3
 obeyed-requires-3 c κs = search needs
 
+obeyed-requires-4 : tie.Need-obeyed-requires-4
+obeyed-requires-4 c κs = search needs
+
 returns : tie.Need-returns
 unfolding obeyed
 returns c =
-    let p = c .before .before in
+    let h = c .before in
+    let p = h .before .before in
     let q = p .before in
     let r = q .before .before in
     let a = r .before .before .args in
     let g = a .self in
     gauge-is (q .before .obeyed .ensures) (q .reset-if .ensures ∙ ap (λ (t : Bool). sampleReset t (g .sample)) (r .is-reset .ensures))
     (p .reset-if2 .ensures ∙ ap (λ (t : Bool). standbyReset t (s0 (g .configuration)) (g .standby)) (r .is-reset .ensures))
-    (c .before .obeyed2 .ensures) (c .obeyed3 .ensures)
+    (h .before .obeyed2 .ensures) (h .obeyed3 .ensures) (c .obeyed4 .ensures)
 
 pub obeyed-spec : {M : Type 1} → statement M
 obeyed-spec =
@@ -50,4 +54,5 @@ obeyed-spec =
     reset-if-requires-2
     obeyed-requires-2
     obeyed-requires-3
+    obeyed-requires-4
     returns)

@@ -37,9 +37,13 @@ discharge-requires-2 c κs = search needs
 averaged-requires : tie.Need-averaged-requires
 averaged-requires c κs = search needs
 
+moved-requires : tie.Need-moved-requires
+moved-requires c κs = search needs
+
 returns : tie.Need-returns
 returns c =
-    let p1 = c .before in
+    let p0 = c .before in
+    let p1 = p0 .before in
     let p2 = p1 .before in
     let p3 = p2 .before in
     let p4 = p3 .before in
@@ -52,7 +56,7 @@ returns c =
     let a = p10 .before .before .args in
     stepped-is (a .current) (a .voltage) (a .temperature) (a .self) (p10 .summed .ensures) (p9 .is-full .ensures) (p8 .discharge .ensures)
     (p7 .ending-of .ensures) (p6 .filled-if .ensures) (p5 .charge-ended .ensures) (p4 .cleared-if .ensures) (p3 .flags-ended .ensures)
-    (p2 .full-if .ensures) (p1 .discharge2 .ensures) (c .averaged .ensures)
+    (p2 .full-if .ensures) (p1 .discharge2 .ensures) (p0 .averaged .ensures) (c .moved .ensures)
 
 pub stepped-spec : {M : Type 1} → statement M
 stepped-spec =
@@ -69,4 +73,5 @@ stepped-spec =
     full-if-requires
     discharge-requires-2
     averaged-requires
+    moved-requires
     returns)

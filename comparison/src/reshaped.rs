@@ -1,0 +1,45 @@
+//! Saves of another length, and saves that say they are of another form.
+
+use crate::counts::Counts;
+use crate::older::FORMS;
+use crate::random::Random;
+use crate::table::{Event, Part};
+
+/// What was done, and whether loading reads the bytes, where that is known.
+type Damage = (Event, Option<bool>);
+
+/// Any length but that of the form, most often the length of another form or one byte beside it.
+pub fn of_another_length(random: &mut Random, bytes: &mut Vec<u8>) -> Damage {
+    let own = bytes.len();
+    while bytes.len() == own {
+        let length = if random.one_in(2) { random.pick(&[40, 41, 42, 43, 44]) } else { random.below(65) as usize };
+        bytes.resize(length, random.pick(&[0, 1, 0xFF]));
+    }
+    (Event::WrongLength, Some(false))
+}
+
+/// The number of another form, with the length of that form in every second one. A form of another length is refused without that.
+pub fn of_another_form(random: &mut Random, bytes: &mut Vec<u8>) -> Damage {
+    let others: Vec<(u8, usize)> = FORMS.into_iter().filter(|&(form, _)| form != bytes[0]).collect();
+    let (form, length) = random.pick(&others);
+    bytes[0] = form;
+    if random.one_in(2) {
+        bytes.resize(length, random.byte());
+        return (Event::FormAndLength, None);
+    }
+    let readable = if bytes.len() == length { None } else { Some(false) };
+    (Event::FormExchanged, readable)
+}
+
+/// Counts bytes whose length is that of another form, or one byte beside the newest.
+pub fn count(counts: &mut Counts, part: Part, bytes: &[u8]) {
+    let event = match (bytes.first(), bytes.len()) {
+        (Some(1), 43) => Event::Form1Of43,
+        (Some(2), 43) => Event::Form2Of43,
+        (Some(3), 41) => Event::Form3Of41,
+        (_, 42) => Event::Of42,
+        (_, 44) => Event::Of44,
+        _ => return,
+    };
+    counts.add(part, event);
+}

@@ -1,0 +1,2 @@
+pub mod CountersKept
+pub mod CountersLaws

@@ -1,0 +1,7 @@
+-- The widths of the counters, which are those of their saved fields. Definitions only; assumes nothing.
+use Prim.Native.Nat.{_^_, _<_}
+use Rattle.counters.specs.declared.counters.Counters.{Counters}
+
+pub record CountersFit (x : Counters) : Type 0 where
+  -- "in two bytes" (A4 of paper 02)
+  pub rests : x .rests < 256 ^ 2

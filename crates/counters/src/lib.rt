@@ -1,0 +1,2 @@
+// What the gauge counts beside its charge.
+pub mod counters;

@@ -1,0 +1,3 @@
+// "Charge from a rested cell": an estimate of the charge from a voltage, which moves nothing.
+pub mod distance;
+pub mod estimate;

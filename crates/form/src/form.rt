@@ -1,0 +1,45 @@
+// The forms' numbers, and where each field of the newest stands, which is where the field before it ends. An older form has the same places, up to
+// its end.
+
+// The newest form, in which a gauge is saved.
+pub const FORM: u8 = 3;
+
+// Form 2, without the count of rest windows.
+pub const FORM_2: u8 = 2;
+
+// "form 1", whose SI is in units, and without that count.
+pub const FORM_1: u8 = 1;
+
+pub const AT_FORM: u16 = 0;
+
+pub const AT_CONFIGURATION: u16 = AT_FORM + 1;
+
+pub const AT_HELD: u16 = AT_CONFIGURATION + 10;
+
+pub const AT_DCR: u16 = AT_HELD + 8;
+
+pub const AT_LMD: u16 = AT_DCR + 8;
+
+// SI in sixteenths, in form 1 in units.
+pub const AT_STANDBY: u16 = AT_LMD + 2;
+
+pub const AT_CURRENT: u16 = AT_STANDBY + 2;
+
+pub const AT_VOLTAGE: u16 = AT_CURRENT + 2;
+
+pub const AT_TEMPERATURE: u16 = AT_VOLTAGE + 2;
+
+pub const AT_AR: u16 = AT_TEMPERATURE + 2;
+
+pub const AT_MODE: u16 = AT_AR + 2;
+
+pub const AT_FLAGS: u16 = AT_MODE + 1;
+
+// The count of rest windows.
+pub const AT_RESTS: u16 = AT_FLAGS + 1;
+
+// "41 bytes": forms 1 and 2.
+pub const LENGTH_2: u16 = AT_RESTS;
+
+// 43 bytes.
+pub const LENGTH: u16 = AT_RESTS + 2;

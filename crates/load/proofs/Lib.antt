@@ -1,0 +1,4 @@
+pub mod EveryFormLaws
+pub mod LengthenedLaws
+pub mod LoadLaws
+pub mod TakenLaws

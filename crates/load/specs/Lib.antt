@@ -1,0 +1,2 @@
+pub mod EveryForm
+pub mod Load

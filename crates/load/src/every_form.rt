@@ -1,0 +1,85 @@
+// Loading a gauge from bytes of any form, length and content.
+ghost use mathlib.Core.Bool.{true};
+ghost use mathlib.Core.List.{_++_};
+ghost use mathlib.Core.Path.{_≡_};
+ghost use Prim.Native.Nat.{_≤_};
+ghost use lib.ListN.{drop, length, replicate, take};
+ghost use Rattle.configuration.specs.Terms.{termsOf};
+ghost use Rattle.load.specs.EveryForm as Spec;
+ghost use Rattle.form.specs.Form.{form1, form2, savedLength};
+ghost use Rattle.load.specs.Load.{answerIn, unitsFit};
+use crate::load::decoded;
+use crate::load::in_form;
+use crate::load::load_newest;
+use crate::load::rejected;
+use crate::load::unless_rejected;
+use configuration::configuration::Configuration;
+use configuration::configuration::s0;
+use form::form::AT_FORM;
+use form::form::FORM_1;
+use form::form::FORM_2;
+use form::form::LENGTH;
+use form::form::LENGTH_2;
+use gauge::answer::Answer;
+use numbers::little::byte_at;
+
+// "SI ≤ 2 × S0", of SI in units; what fits can be multiplied by 16 in two bytes.
+fn units_fit(configuration: Configuration, units: u16) -> bool
+    ensures { λ r. ⌜ r ≡ unitsFit ((termsOf configuration) .s0) units ⌝ }
+    ensures range { λ r. ⌜ (r ≡ true → units ≤ 1_020) ⌝ }
+{
+    units <= 2 * s0(configuration)
+}
+
+// Bytes of an older form with zeros behind them, of the newest form's length. So they are read as bytes of that form are, and the function that
+// reads them is in the archive once.
+fn lengthened(bytes: &[u8]) -> [u8; LENGTH as usize]
+    requires { ⌜ length (now bytes) ≤ savedLength ⌝ }
+    ensures { λ r. ⌜ r ≡ take (length (now (bytes .entry))) (now (bytes .entry)) ++ drop (length (now (bytes .entry))) (replicate savedLength 0) ⌝ }
+{
+    let mut whole = [0u8; LENGTH as usize];
+    bytes::copy(bytes, &mut whole);
+    whole
+}
+
+// Form 2 has the newest form's places up to its end, behind which zeros stand.
+fn load_form_2(bytes: &[u8]) -> Answer
+    ensures { λ r. ⌜ r ≡ answerIn form2 (now (bytes .entry)) ⌝ }
+{
+    if !in_form(bytes, FORM_2, LENGTH_2) {
+        return rejected();
+    }
+    let whole = lengthened(bytes);
+    unless_rejected(decoded(&whole))
+}
+
+// Form 1 has form 2's places and SI in units: held to its own limit first, then "multiplied by 16".
+fn load_form_1(bytes: &[u8]) -> Answer
+    ensures { λ r. ⌜ r ≡ answerIn form1 (now (bytes .entry)) ⌝ }
+{
+    if !in_form(bytes, FORM_1, LENGTH_2) {
+        return rejected();
+    }
+    let whole = lengthened(bytes);
+    let mut gauge = decoded(&whole);
+    let configuration = gauge.configuration;
+    if !units_fit(configuration, gauge.standby) {
+        return rejected();
+    }
+    gauge.standby = 16 * gauge.standby;
+    unless_rejected(gauge)
+}
+
+// The gauge that the bytes hold, in the form that their first byte tells, or 14.
+pub fn load(bytes: &[u8]) -> Answer
+    ensures { λ r. ⌜ r ≡ Spec.loadAnswer (now (bytes .entry)) ⌝ }
+{
+    let form = byte_at(bytes, AT_FORM as usize);
+    if form == FORM_1 {
+        return load_form_1(bytes);
+    }
+    if form == FORM_2 {
+        return load_form_2(bytes);
+    }
+    load_newest(bytes)
+}

@@ -1,0 +1,3 @@
+pub mod Claim
+pub mod Rule
+pub mod Table

@@ -1,0 +1,52 @@
+# shellcheck shell=bash disable=SC2154 # what tables.sh sets
+# For compare-estimate and check, which read this file after tables.sh: the tables of the picture of an estimate.
+
+# asked_table FOLDER: the stored table, asked of the gauge at every voltage: an empty one with LMD 1000, whose estimate is the permille. In
+# FOLDER/estimates the voltage is the second number of a line and the permille the third.
+asked_table() {
+    mkdir -p "$1"
+    { printf 'open bench\nlmd 1000\nrest 422 1192\n'; seq -f 'estimate %g' 3000 4200; } >"$1/asked.txt"
+    tables "$1" "$1/asked.txt"
+}
+
+# without_settings TABLE: the calls that replay printed, as a list, without the settings by an estimate: a `nac` with the counts that the estimate
+# before it gave, where no other call moves the gauge between the two.
+without_settings() {
+    awk 'NR == 1 { for (i = 1; i <= NF; i++) if ($i == "call") call = i; next }
+        $1 == "#" && $2 == "estimate" { given = $3 }
+        /^#/ { next }
+        $call == "nac" && $(call + 1) == given { next }
+        $call != "estimate" && $call != "preview" && $call != "read" { given = "" }
+        { line = $call; for (i = call + 1; i <= NF; i++) line = line " " $i; print line }' "$1"
+}
+
+# nac_before HOUR FOLDER: NAC in the last row before that hour.
+nac_before() {
+    awk -v hour="$1" '$1 + 0 >= hour { exit } NF { nac = $2 } END { print nac }' "$2/curves"
+}
+
+# estimate_marks FOLDER: what gnuplot needs beside the tables, as its variables. `settings`: how many were left out. `given`: how many estimates there
+# are; if any, `first_hour` to `first_permille` of the first. `dark_hour`: when the handset goes dark after it, or -1; `dark_nac` and
+# `dark_without`: NAC before that, with the settings and without.
+estimate_marks() {
+    local dark
+    echo "settings = $(($(grep -c '^[^#]' "$1/table") - $(grep -c '^[^#]' "$1/without/table")))"
+    echo "given = $(wc -l <"$1/given")"
+    awk 'NR == 1 {
+        print "first_hour = " $1 "\nfirst_voltage = " $2
+        print "first_counts = " $3 "\nfirst_nac = " ($3 - $4) "\nfirst_permille = " $5
+    }' "$1/given"
+    dark=$(awk 'NR == FNR { if (FNR == 1) first = $1; next } first != "" && $1 > first { print $1; exit }' "$1/given" "$1/dark")
+    echo "dark_hour = ${dark:--1}"
+    [ -z "$dark" ] || printf 'dark_nac = %s\ndark_without = %s\n' "$(nac_before "$dark" "$1")" "$(nac_before "$dark" "$1/without")"
+}
+
+# estimate_tables FOLDER LIST ..: all of them. FOLDER/given has hour, voltage, counts, distance and permille of each estimate.
+estimate_tables() {
+    tables "$@"
+    asked_table "$1/asked"
+    without_settings "$1/table" >"$1/without.txt"
+    tables "$1/without" "$1/without.txt"
+    awk 'NR == FNR { permille[$2] = $3; next } { print $0, permille[$2] }' "$1/asked/estimates" "$1/estimates" >"$1/given"
+    estimate_marks "$1" >"$1/estimate-marks"
+}
