@@ -7,6 +7,7 @@ use crate::rest_scenes;
 use crate::scenes;
 use crate::trial::Trial;
 use crate::writer::Writer;
+use reference::history::Call;
 
 /// One list in so many has a long run, which alone is some 1,650 windows.
 const LONG_RUN_EVERY: u64 = 100;
@@ -65,7 +66,8 @@ fn scene(writer: &mut Writer) {
     if writer.random.one_in(RESTED_EVERY) {
         return estimate_scenes::rested(writer);
     }
-    match writer.random.below(24) {
+    let kind = writer.random.below(24);
+    match kind {
         0..=2 => (0..writer.random.amount(12)).for_each(|_| scenes::any_window(writer)),
         3 | 4 => scenes::charge_up(writer),
         5 | 6 => scenes::taper(writer),
@@ -75,27 +77,22 @@ fn scene(writer: &mut Writer) {
         13 => rest_scenes::rest(writer),
         14 | 15 => host::command(writer),
         16 => host::capacity(writer),
-        17 => {
-            let call = host::any_write(&mut writer.random);
-            writer.call(call);
-        }
-        18 => {
-            let call = host::any_read(&mut writer.random);
-            writer.call(call);
-        }
-        19 => host::look(writer),
-        20 => {
-            let call = host::any_preview(&mut writer.random);
-            writer.call(call);
-        }
-        21 => rest_scenes::aimed(writer),
-        22 => {
-            let call = host::any_estimate(&mut writer.random);
-            writer.call(call);
-        }
+        17 => host::look(writer),
+        18 => rest_scenes::aimed(writer),
         _ => {
-            let call = host::out_of_range(&mut writer.random, &writer.configuration);
+            let call = any_call(kind, writer);
             writer.call(call);
         }
+    }
+}
+
+/// A single call, of one kind for each number from 19 on.
+fn any_call(kind: u64, writer: &mut Writer) -> Call {
+    match kind {
+        19 => host::any_write(&mut writer.random),
+        20 => host::any_read(&mut writer.random),
+        21 => host::any_preview(&mut writer.random),
+        22 => host::any_estimate(&mut writer.random),
+        _ => host::out_of_range(&mut writer.random, &writer.configuration),
     }
 }

@@ -1,3 +1,3 @@
 // "Charge from a rested cell": an estimate of the charge from a voltage, which moves nothing.
-pub mod distance;
+mod distance;
 pub mod estimate;

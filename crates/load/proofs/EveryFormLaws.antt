@@ -3,14 +3,14 @@
 use mathlib.Core.Bool.{Bool, true, false, _&&_}
 use mathlib.Core.List.{List}
 use mathlib.Core.Path.{_≡_, refl, sym, ap, _∙_}
-use Prim.Native.Nat.{ℕ, _*_}
+use Prim.Native.Nat.{ℕ, _*_, _≤_}
 use native.Mathlib.Omega.{arith}
 use lib.Dec.{eqb}
 use lib.ListN.{getD, length}
 use borrow.Author.Tests.{eq-eqb, eqb-true, ne-eqb}
 use Rattle.configuration.specs.Configuration.{s0}
 use Rattle.counters.proofs.CountersLaws.{countersOf}
-use Rattle.form.specs.Form.{Rests, form1, form2, lengthOf, newest, placeOf, widthOf}
+use Rattle.form.specs.Form.{Rests, form1, form2, lengthOf, newest, placeOf, savedLength, widthOf}
 use Rattle.gauge.specs.Parts.{gaugeOf}
 use Rattle.gauge.specs.declared.state.Gauge.{Gauge}
 use Rattle.gauge.proofs.GaugeLaws.{gauge-is}
@@ -41,8 +41,11 @@ endOf2 = lengthOf (form2 .fields)
 
 module _ (bytes : List ℕ) where
   -- the length of bytes that fit
-  pub fits-length : (number : ℕ) → fitsAs number endOf2 newest bytes ≡ true → length bytes ≡ endOf2
+  fits-length : (number : ℕ) → fitsAs number endOf2 newest bytes ≡ true → length bytes ≡ endOf2
   fits-length number f = eqb-true (length bytes) endOf2 (and-left (eqb (length bytes) endOf2) _ f)
+
+  pub shorter : (number : ℕ) → fitsAs number endOf2 newest bytes ≡ true → length bytes ≤ savedLength
+  shorter number f = let l = fits-length number f in omega arith
 
   -- "older forms read as 0": past their end
   no-count : length bytes ≡ endOf2 → loadedCounters newest bytes ≡ countersOf 0

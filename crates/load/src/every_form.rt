@@ -1,13 +1,12 @@
 // Loading a gauge from bytes of any form, length and content.
 ghost use mathlib.Core.Bool.{true};
-ghost use mathlib.Core.List.{_++_};
 ghost use mathlib.Core.Path.{_≡_};
 ghost use Prim.Native.Nat.{_≤_};
-ghost use lib.ListN.{drop, length, replicate, take};
+ghost use lib.ListN.{length};
 ghost use Rattle.configuration.specs.Terms.{termsOf};
 ghost use Rattle.load.specs.EveryForm as Spec;
-ghost use Rattle.form.specs.Form.{form1, form2, savedLength};
-ghost use Rattle.load.specs.Load.{answerIn, unitsFit};
+ghost use Rattle.form.specs.Form.{form1, form2, newest, savedLength};
+ghost use Rattle.load.specs.Load.{answerIn, loaded, unitsFit};
 use crate::load::decoded;
 use crate::load::in_form;
 use crate::load::load_newest;
@@ -21,6 +20,7 @@ use form::form::FORM_2;
 use form::form::LENGTH;
 use form::form::LENGTH_2;
 use gauge::answer::Answer;
+use gauge::state::Gauge;
 use numbers::little::byte_at;
 
 // "SI ≤ 2 × S0", of SI in units; what fits can be multiplied by 16 in two bytes.
@@ -31,15 +31,15 @@ fn units_fit(configuration: Configuration, units: u16) -> bool
     units <= 2 * s0(configuration)
 }
 
-// Bytes of an older form with zeros behind them, of the newest form's length. So they are read as bytes of that form are, and the function that
-// reads them is in the archive once.
-fn lengthened(bytes: &[u8]) -> [u8; LENGTH as usize]
+// What bytes of an older form hold: zeros are put behind them up to the newest form's length, so that they are read as bytes of that form are, and
+// the function that reads them is in the archive once.
+fn decoded_older(bytes: &[u8]) -> Gauge
     requires { ⌜ length (now bytes) ≤ savedLength ⌝ }
-    ensures { λ r. ⌜ r ≡ take (length (now (bytes .entry))) (now (bytes .entry)) ++ drop (length (now (bytes .entry))) (replicate savedLength 0) ⌝ }
+    ensures { λ r. ⌜ r ≡ loaded newest (now (bytes .entry)) ⌝ }
 {
     let mut whole = [0u8; LENGTH as usize];
     bytes::copy(bytes, &mut whole);
-    whole
+    decoded(&whole)
 }
 
 // Form 2 has the newest form's places up to its end, behind which zeros stand.
@@ -49,8 +49,7 @@ fn load_form_2(bytes: &[u8]) -> Answer
     if !in_form(bytes, FORM_2, LENGTH_2) {
         return rejected();
     }
-    let whole = lengthened(bytes);
-    unless_rejected(decoded(&whole))
+    unless_rejected(decoded_older(bytes))
 }
 
 // Form 1 has form 2's places and SI in units: held to its own limit first, then "multiplied by 16".
@@ -60,8 +59,7 @@ fn load_form_1(bytes: &[u8]) -> Answer
     if !in_form(bytes, FORM_1, LENGTH_2) {
         return rejected();
     }
-    let whole = lengthened(bytes);
-    let mut gauge = decoded(&whole);
+    let mut gauge = decoded_older(bytes);
     let configuration = gauge.configuration;
     if !units_fit(configuration, gauge.standby) {
         return rejected();
