@@ -20,7 +20,7 @@ restOf n g = (restAnswer g n (pos 1_192)) .gauge
 abbrev commandOf : ℕ → ℕ → Gauge → Gauge
 commandOf mode key g = (writeAnswer ((writeAnswer g 1 mode) .gauge) 0 key) .gauge
 
--- 422 windows of rest while empty, then WRTLMD of 65,535: both settings keep the count
+-- 422 windows of rest while empty, then WRTLMD of 65,535, and DONE: settings keep the count
 abbrev largeEmpty : Gauge
 largeEmpty = commandOf 0x01 0x56 (withAr 0xFF 0xFF (restOf 422 openedPack))
 
@@ -78,7 +78,8 @@ pub record EstimateRows : Type 0 where
   -- a refusal hands nothing out
   pub estimate-kept : estimateAt (pos 3_700) (restOf 421 benchFull) ≡ 9
   pub distance-kept : distanceAt (pos 4_201) (restOf 422 benchFull) ≡ negsuc 8
-  -- the count is cleared by PRST and FRST, and stops at 65,535
+  -- the count is kept by WRTNAC, cleared by PRST and FRST, and stops at 65,535
+  pub wrtnac-keeps : (commandOf 0x20 0xA9 (restOf 422 benchFull)) .counters .rests ≡ 422
   pub prst-clears : (commandOf 0x08 0xA9 (restOf 422 benchFull)) .counters .rests ≡ 0
   pub frst-clears : (commandOf 0x02 0xA9 (restOf 422 benchFull)) .counters .rests ≡ 0
   pub stops : countersRested 2 (record { rests = 65_534 }) ≡ record { rests = 65_535 }

@@ -31,7 +31,13 @@ use Rattle.examples.proofs.proved_estimates.Statement.{statement}
 use Rattle.examples.proofs.proved_estimates.Tie as tie
 
 returns : tie.Need-returns
-unfolding chargeAccepted emptied filled heldMoved leaked moved openedCharge runMoved withoutRun chargeObeyed writtenLmd writtenNac rested restedOnce decide decide56 decideA9 highestCommandBit isReset openedMode countersMoved countersObeyed countersRested openedCounters distanceAfter distanceFrom estimateAfter estimateRefusal estimated clearedIf flagsObeyed accepted restAnswer storedAt windowAnswer writeAnswer writeRefusal written decided obeyed openAnswer openRefusal opened rest reachedIn summed window band leak leakRate reached weight drained runAccepted unlessPassed commanded commandsCleared fullIf hostObeyed initCleared openedHost stored rule inTable permille endingOf isFull chargeEnded chargeReached filledIf flagsEnded reachedBy charge counted discharge zeroOrWithin between currentInRange valueBetween currentAccepted noSample sampleAccepted sampleReset sampleRested averaged standbyAccepted standbyReset
+unfolding chargeAccepted emptied filled heldMoved leaked moved openedCharge runMoved withoutRun chargeObeyed writtenLmd writtenNac rested
+    restedOnce decide decide56 decideA9 highestCommandBit isReset openedMode countersMoved countersObeyed countersRested openedCounters distanceAfter
+    distanceFrom estimateAfter estimateRefusal estimated clearedIf flagsObeyed accepted restAnswer storedAt windowAnswer writeAnswer writeRefusal
+    written decided obeyed openAnswer openRefusal opened rest reachedIn summed window band leak leakRate reached weight drained runAccepted
+    unlessPassed commanded commandsCleared fullIf hostObeyed initCleared openedHost stored rule inTable permille endingOf isFull chargeEnded
+    chargeReached filledIf flagsEnded reachedBy charge counted discharge zeroOrWithin between currentInRange valueBetween currentAccepted noSample
+    sampleAccepted sampleReset sampleRested averaged standbyAccepted standbyReset
 returns c =
     record {
       at-3000 = refl;
@@ -69,6 +75,7 @@ returns c =
       greatest-below = refl;
       estimate-kept = refl;
       distance-kept = refl;
+      wrtnac-keeps = refl;
       prst-clears = refl;
       frst-clears = refl;
       stops = refl;
