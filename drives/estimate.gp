@@ -37,7 +37,7 @@ if (strstrt(bands, '6') > 0) {
     set label 6 'rest' at screen 0.53,row
 }
 refused_signs = ''
-if (refused > 0) {
+if (crosses > 0) {
     refused_signs = ", folder.'/refused' using (scaled($1)):(0.5*bottom) with points pt 2 ps 0.9 lc '#000000'"
     set label 7 '' at screen 0.585,row point pt 2 ps 0.9 lc '#000000'
     set label 8 'refused call' at screen 0.595,row

@@ -44,6 +44,7 @@ estimate_marks() {
 # estimate_tables FOLDER LIST ..: all of them. FOLDER/given has hour, voltage, counts, distance and permille of each estimate.
 estimate_tables() {
     tables "$@"
+    every_call compare-estimate "$1"
     asked_table "$1/asked"
     without_settings "$1/table" >"$1/without.txt"
     tables "$1/without" "$1/without.txt"

@@ -13,7 +13,7 @@ filled(k) = sign[k] > 3 && int(sign[k]) % 2 == 1
 outline(k) = filled(k) ? sign[k] - 1 : sign[k]
 edge(k) = filled(k) ? '#333333' : colour[k]
 width(k) = filled(k) ? 1 : 2.5
-percent = '#A6CEE3'; capacity = '#777777'
+percent = '#A6CEE3'; capacity = '#777777'; between = '#F3EFE6'
 array band[6] = ['#5B7083', '#5B7083', '#5B7083', '#5B7083', '#5B7083', '#C4C4C4']
 
 scaled(hour) = hour * per_hour
@@ -33,8 +33,12 @@ set arrow 2 from screen 0.18,row to screen 0.21,row nohead lc rgb percent lw 4
 set label 3 'RSOC' at screen 0.215,row
 set arrow 3 from screen 0.28,row to screen 0.31,row nohead lc rgb capacity dt 2 lw 1.5
 set label 4 'LMD' at screen 0.315,row
-if (refused > 0) { set label 5 '' at screen 0.40,row point pt 2 ps 0.9 lc '#000000' }
+if (crosses > 0) { set label 5 '' at screen 0.40,row point pt 2 ps 0.9 lc '#000000' }
 set label 6 (refused == 0 ? 'no call' : refused == 1 ? '1 call' : sprintf('%d calls', refused)).sprintf(' refused (of %d)', calls) at screen 0.41,row
+if (rounds > 0) {
+    set object 1 rectangle from screen 0.675,row-0.014 to screen 0.70,row+0.014 fc rgb between fs solid 1 noborder
+    set label 9 'rounds, drawn by their ends alone' at screen 0.705,row
+}
 row = 0.882
 at = 0.187
 solid = ''
@@ -65,16 +69,18 @@ beside(hour) = scaled(hour) < 0.05*whole ? 0.023*whole : -0.023*whole
 dark_lines = dark == 0 ? '' : \
     "folder.'/dark' using (scaled($1)):(bottom):(0):(top-bottom) with vectors nohead dt 2 lc '#000000' lw 1.5, ". \
     "'' using (scaled($1)+beside($1)):(0.6*greatest):($2 == 1 ? 'dark' : '') with labels boxed,"
-refused_marks = refused == 0 ? '' : ", folder.'/refused' using (scaled($1)):(0.5*bottom) with points pt 2 ps 0.9 lc '#000000'"
+refused_marks = crosses == 0 ? '' : ", folder.'/refused' using (scaled($1)):(0.5*bottom) with points pt 2 ps 0.9 lc '#000000'"
+round_spans = rounds == 0 ? '' : "folder.'/rounds' using (scaled($1)):(bottom):(scaled($1)):(scaled($2)):(bottom):(top) ". \
+    "with boxxyerror lc rgb between fs solid 1 noborder,"
 filled_signs = solid eq '' ? '' : ", for [k in solid] folder.'/points' using ($1 == k ? scaled($2) : NaN):3 ". \
     "with points pt sign[int(k)] ps 1.5 lc rgb colour[int(k)]"
-plot @dark_lines folder.'/curves' using (scaled(column('hour'))):'lmd' with lines lc rgb capacity dt 2 lw 1.5, \
+plot @round_spans @dark_lines folder.'/curves' using (scaled(column('hour'))):'lmd' with lines lc rgb capacity dt 2 lw 1.5, \
      '' using (scaled(column('hour'))):'rsoc' axes x1y2 with lines lc rgb percent lw 4, \
      '' using (scaled(column('hour'))):'nac' with lines lc '#000000' lw 1.5 @refused_marks @filled_signs, \
      for [k in made] folder.'/points' using ($1 == k ? scaled($2) : NaN):3 with points pt outline(int(k)) ps 1.5 lw width(int(k)) lc rgb edge(int(k))
 
 # Below: a band for each flag, and one for rests if there are any.
-unset label; unset arrow; unset y2tics; unset y2label
+unset label; unset arrow; unset object; unset y2tics; unset y2label
 set tmargin at screen 0.31; set bmargin at screen 0.10
 set format x '%g'
 set xlabel 'time ('.unit.')'
@@ -84,8 +90,10 @@ set yrange [5.6 + rests : 0.4]
 set ytics scale 0 ('CHGS' 1, 'VDQ' 2, 'EDV1' 3, 'EDVF' 4, 'CI' 5)
 if (rests) { set ytics add ('(rest)' 6) }
 set grid noytics
+round_spans = rounds == 0 ? '' : ", folder.'/rounds' using (scaled($1)):(1):(scaled($1)):(scaled($2)):(0.4):(5.6 + rests) ". \
+    "with boxxyerror lc rgb between fs solid 1 noborder"
 set_bands = bands eq '' ? '' : ", for [k in bands] folder.'/bands' ". \
     "using (scaled($2)):($1 == k ? $1 : NaN):(scaled($2)):(scaled($3)):($1 - 0.32):($1 + 0.32) ". \
     "with boxxyerror lc rgb band[int(k)] fs solid 1 border lc rgb band[int(k)]"
-plot -1 with lines @set_bands
+plot -1 with lines @round_spans @set_bands
 unset multiplot

@@ -44,6 +44,11 @@ tables() {
     traced "$1"
 }
 
+# every_call NAME FOLDER: FOLDER/table has a row for every call, or the script ends. Of a repeated part it has not.
+every_call() {
+    ! grep -q '^# repeat ' "$2/table" || fail "$1 follows every call, and a repeat of several lines has calls without a row"
+}
+
 # draw SCRIPT FOLDER OUT TITLE: the picture, from the tables in FOLDER. OUT is put in place last, so that a failure leaves it as it was.
 draw() {
     gnuplot -c "$drives/$1" "$2" "$2/picture.png" "$4" || fail "gnuplot failed"

@@ -1,7 +1,7 @@
 /*
  * The battery gauge's eight calls for C (C99 and later) and C++ firmware.
  *
- * The firmware owns the gauge: 43 bytes that it keeps in RAM and copies to non-volatile memory as it likes. Every call
+ * The firmware owns the gauge: 53 bytes that it keeps in RAM and copies to non-volatile memory as it likes. Every call
  * gets those bytes and keeps nothing between calls: no writable static data, no allocation. So a gauge may be copied, and two
  * gauges may be used from two threads. One gauge must not be used by two calls at once, nor by an interrupt during a call.
  *
@@ -25,15 +25,15 @@ extern "C" {
 #endif
 
 /* The version of the calls and of this file; a new minor one adds, a new major one changes. */
-#define GAUGE_VERSION "3.0.0"
-#define GAUGE_VERSION_NUMBER 30000 /* 10000 * major + 100 * minor + the rest */
+#define GAUGE_VERSION "4.0.0"
+#define GAUGE_VERSION_NUMBER 40000 /* 10000 * major + 100 * minor + the rest */
 
 /* The form of the saved bytes, which is their first byte. gauge_convert also reads the older ones, from GAUGE_FORM_OLDEST on. */
-#define GAUGE_FORM 3
+#define GAUGE_FORM 4
 #define GAUGE_FORM_OLDEST 1
 
 #define GAUGE_CONFIGURATION_LENGTH 10
-#define GAUGE_SAVED_LENGTH 43
+#define GAUGE_SAVED_LENGTH 53
 #define GAUGE_REGISTERS 128
 
 /* What a call accepts. A value outside is refused, never cut to the range. */
@@ -53,6 +53,10 @@ extern "C" {
 /* Where the gauge's count of rest windows stops. */
 #define GAUGE_REST_COUNT_MAX 65535
 
+/* Where CYCT stops. The compensation ages in steps of so many cycles. */
+#define GAUGE_CYCLES_MAX 65535
+#define GAUGE_CYCLES_AN_AGE_STEP 16
+
 enum gauge_refusal {
     GAUGE_OK = 0,
     GAUGE_REFUSED_CONFIGURATION_LENGTH = 1, /* not 10 configuration bytes */
@@ -67,7 +71,7 @@ enum gauge_refusal {
     GAUGE_REFUSED_NOT_CARRIED = 10,         /* the command does not belong to this key */
     GAUGE_REFUSED_LMD_ZERO = 11,            /* WRTLMD with AR 0 */
     GAUGE_REFUSED_COUNT = 12,               /* count 0, or address + count above 128 */
-    GAUGE_REFUSED_REPLY = 13,               /* place + count beyond the reply; preview: not 128 bytes; open, convert: saved not 43 */
+    GAUGE_REFUSED_REPLY = 13,               /* place + count beyond the reply; preview: not 128 bytes; open, convert: saved not 53 */
     GAUGE_REFUSED_SAVED = 14,               /* the saved bytes are no gauge: damaged, cleared, of another length or form */
     GAUGE_REFUSED_NOT_RESTED = 15,          /* estimate: fewer than 422 rest windows since the last current, opening or reset */
     GAUGE_REFUSED_ESTIMATE_VOLTAGE = 16     /* estimate: outside 3000 to 4200, the table's range */
@@ -85,7 +89,7 @@ enum gauge_register {
     GAUGE_REG_RSOC = 0x0B,  /* byte: NAC in percent of LMD */
     GAUGE_REG_NAC = 0x0C,   /* pair: charge held, counts */
     GAUGE_REG_LMD = 0x0E,   /* pair: learned capacity, counts */
-    GAUGE_REG_CAC = 0x10,   /* pair: NAC compensated for load and cold, counts */
+    GAUGE_REG_CAC = 0x10,   /* pair: NAC compensated for load, cold and age, counts */
     GAUGE_REG_FCAC = 0x12,  /* pair: LMD compensated likewise, counts */
     GAUGE_REG_IAV = 0x14,   /* pair: amount of the counted current, units; its direction is CHGS */
     GAUGE_REG_TTE = 0x16,   /* pair: time to empty, minutes; 65535 unless discharging */
@@ -93,6 +97,7 @@ enum gauge_register {
     GAUGE_REG_SI = 0x1A,    /* pair: standby current, units, rounded up; the gauge keeps it in sixteenths */
     GAUGE_REG_STTE = 0x1C,  /* pair: time to empty at SI, minutes */
     GAUGE_REG_CEDV = 0x20,  /* pair: first end-of-discharge voltage, mV */
+    GAUGE_REG_CYCT = 0x2A,  /* pair: cycles, one for each LMD of counts discharged since opening or FRST; stops at 65535 */
     GAUGE_REG_ILMD = 0x76,  /* the ten configuration bytes, 0x76 to 0x7F */
     GAUGE_REG_SEDVF = 0x77,
     GAUGE_REG_SEDV1 = 0x78,
@@ -100,10 +105,13 @@ enum gauge_register {
     GAUGE_REG_DMFSD = 0x7A,
     GAUGE_REG_TAPER = 0x7B,
     GAUGE_REG_PKCFG = 0x7C,
-    GAUGE_REG_ID3 = 0x7D,
+    GAUGE_REG_ID3 = 0x7D, /* its two low bits are GAF, the gain age factor */
     GAUGE_REG_DCOMP = 0x7E,
     GAUGE_REG_TCOMP = 0x7F
 };
+
+/* GAF in ID3: how fast the compensation grows with the cycles, 0 not at all. */
+#define GAUGE_ID3_GAF 0x03
 
 /* Bits of FLAGS. */
 enum gauge_flag {
@@ -118,7 +126,7 @@ enum gauge_flag {
 enum gauge_command {
     GAUGE_MODE_WRTNAC = 0x20,      /* NAC = the smaller of AR and LMD */
     GAUGE_MODE_DONE = 0x10,        /* full, the charger says so */
-    GAUGE_MODE_PRST = 0x08,        /* as opened, but charge, LMD and CI are kept */
+    GAUGE_MODE_PRST = 0x08,        /* as opened, but charge, LMD, CI and cycles are kept */
     GAUGE_MODE_FRST = 0x02,        /* as opened */
     GAUGE_MODE_WRTLMD = 0x01,      /* LMD = AR */
     GAUGE_MODE_COMMAND_BITS = 0x3B /* the five together */
@@ -144,22 +152,24 @@ enum gauge_command_number {
 
 /*
  * Makes a new gauge from the ten configuration bytes (order 0x76 to 0x7F): empty, LMD = 256 * ILMD, CI set, nothing measured.
- * Success fills the 43 bytes at saved; what stood there does not matter.
+ * Success fills the 53 bytes at saved; what stood there does not matter.
  * Refuses, in this order: 1, 2, 13.
  */
 uint32_t gauge_open(const uint8_t *configuration, size_t configuration_length, uint8_t *saved, size_t saved_length);
 
 /*
  * Brings bytes that an older version of the gauge saved over to GAUGE_FORM: charge, capacity, run, MODE, AR and all else as they
- * were. For a handset whose firmware is updated while a gauge is in its memory: every other call answers 14 to an older form.
- * Bytes that already are of GAUGE_FORM come out the same. old is only read; success fills the 43 bytes at saved.
+ * were, and 0 for what the older form does not have: the count of rest windows before form 3, the cycles before form 4. For a handset
+ * whose firmware is updated while a gauge is in its memory: every other call answers 14 to an older form.
+ * Bytes that already are of GAUGE_FORM come out the same. old is only read; success fills the 53 bytes at saved.
  * Refuses, in this order: 14 (of the bytes at old), 13.
  */
 uint32_t gauge_convert(const uint8_t *old, size_t old_length, uint8_t *saved, size_t saved_length);
 
 /*
  * One window of 5.12 s. current is the window's average in units, positive charging; voltage in mV; temperature in quarter
- * kelvins. A current of at most DMF units either way counts as 0. Success leaves the gauge after the window in saved.
+ * kelvins. A current of at most DMF units either way counts as 0. What is discharged, below empty too, counts towards CYCT: one
+ * cycle for each whole LMD of it, the LMD before this window. Success leaves the gauge after the window in saved.
  * Refuses, in this order: 14, 3, 4, 5.
  */
 uint32_t gauge_window(uint8_t *saved, size_t saved_length, int32_t current, int32_t voltage, int32_t temperature);
@@ -218,6 +228,8 @@ static inline size_t gauge_form_length(uint8_t form)
         return 41;
     case 3:
         return 43;
+    case 4:
+        return 53;
     default:
         return 0;
     }

@@ -35,6 +35,35 @@ static uint32_t choose_wrtnac(void)
     return numbers;
 }
 
+static uint32_t set_lmd(unsigned counts)
+{
+    uint32_t numbers = gauge_write(saved, sizeof saved, GAUGE_REG_AR, (uint8_t)(counts & 0xFF));
+
+    numbers |= gauge_write(saved, sizeof saved, GAUGE_REG_AR + 1, (uint8_t)(counts >> 8));
+    numbers |= gauge_write(saved, sizeof saved, GAUGE_REG_MODE, GAUGE_MODE_WRTLMD);
+    numbers |= gauge_write(saved, sizeof saved, GAUGE_REG_CTRL, GAUGE_KEY_WRTLMD);
+    return numbers;
+}
+
+/* The bench pack with GAF 3. */
+static const uint8_t ageing_pack[GAUGE_CONFIGURATION_LENGTH] = {
+    0x04, 0x5E, 0x77, 0x05, 0x21, 0x10, 0x00, 0x03, 0x6C, 0x15,
+};
+
+/* A gauge on its way from full with 39 cycles, which one window of the greatest current brings where LMD is one count: CAC is
+ * compensated for age too. */
+static uint32_t grow_old(void)
+{
+    uint32_t numbers = gauge_open(ageing_pack, sizeof ageing_pack, saved, sizeof saved);
+
+    numbers |= set_lmd(1);
+    numbers |= gauge_window(saved, sizeof saved, -GAUGE_CURRENT_MAX, 3600, 1192);
+    numbers |= set_lmd(1024);
+    numbers |= gauge_window(saved, sizeof saved, 20, 4150, 1192);
+    numbers |= gauge_window(saved, sizeof saved, -3000, 3600, 1192);
+    return numbers;
+}
+
 /* The bench pack with ILMD 255 and SD 15: from DONE no configuration leaks more. */
 static const uint8_t leaking_pack[GAUGE_CONFIGURATION_LENGTH] = {
     0xFF, 0x5E, 0x77, 0x05, 0x2F, 0x10, 0x00, 0x00, 0x6C, 0x15,
@@ -97,17 +126,46 @@ static bool repeat_from_done(const char *kind, unsigned long times, uint32_t *nu
     return true;
 }
 
+static bool repeat_convert(const char *kind, unsigned long times, uint32_t *numbers)
+{
+    if (strcmp(kind, "convert-1") == 0)
+        REPEAT(gauge_convert(kept_form_1, sizeof kept_form_1, converted, sizeof converted));
+    else if (strcmp(kind, "convert-2") == 0)
+        REPEAT(gauge_convert(kept_form_2, sizeof kept_form_2, converted, sizeof converted));
+    else if (strcmp(kind, "convert-3") == 0)
+        REPEAT(gauge_convert(kept_form_3, sizeof kept_form_3, converted, sizeof converted));
+    else if (strcmp(kind, "convert-4") == 0)
+        REPEAT(gauge_convert(saved, sizeof saved, converted, sizeof converted));
+    else
+        return false;
+    return true;
+}
+
+/* Calls on a gauge that other calls bring there first. */
+static bool repeat_prepared(const char *kind, unsigned long times, uint32_t *numbers)
+{
+    if (strcmp(kind, "window-cycles") == 0) {
+        *numbers |= set_lmd(1);
+        REPEAT(gauge_window(saved, sizeof saved, -GAUGE_CURRENT_MAX, 3600, 1192));
+    } else if (strcmp(kind, "read-aged") == 0) {
+        *numbers |= grow_old();
+        REPEAT(gauge_read(saved, sizeof saved, GAUGE_REG_CAC, 2, reply, sizeof reply, 0));
+    } else if (strcmp(kind, "preview") == 0) {
+        *numbers |= choose_wrtnac();
+        REPEAT(gauge_preview(saved, sizeof saved, GAUGE_KEY_WRTNAC, reply, sizeof reply, &command));
+    } else if (strcmp(kind, "estimate") == 0) {
+        *numbers |= gauge_rest(saved, sizeof saved, GAUGE_ESTIMATE_REST_MIN, 1192);
+        REPEAT(gauge_estimate(saved, sizeof saved, 3700, &estimate, &distance));
+    } else
+        return repeat_from_done(kind, times, numbers);
+    return true;
+}
+
 /* False for a kind that is none. */
 static bool repeat(const char *kind, unsigned long times, uint32_t *numbers)
 {
     if (strcmp(kind, "open") == 0)
         REPEAT(gauge_open(bench_pack, sizeof bench_pack, saved, sizeof saved));
-    else if (strcmp(kind, "convert-1") == 0)
-        REPEAT(gauge_convert(kept_form_1, sizeof kept_form_1, converted, sizeof converted));
-    else if (strcmp(kind, "convert-2") == 0)
-        REPEAT(gauge_convert(kept_form_2, sizeof kept_form_2, converted, sizeof converted));
-    else if (strcmp(kind, "convert-3") == 0)
-        REPEAT(gauge_convert(saved, sizeof saved, converted, sizeof converted));
     else if (strcmp(kind, "window") == 0)
         REPEAT(gauge_window(saved, sizeof saved, -3000, 3600, 1192));
     else if (strcmp(kind, "read-2") == 0)
@@ -116,20 +174,14 @@ static bool repeat(const char *kind, unsigned long times, uint32_t *numbers)
         REPEAT(gauge_read(saved, sizeof saved, 0, GAUGE_REGISTERS, reply, sizeof reply, 0));
     else if (strcmp(kind, "write") == 0)
         REPEAT(gauge_write(saved, sizeof saved, GAUGE_REG_AR, 0x64));
-    else if (strcmp(kind, "preview") == 0) {
-        *numbers |= choose_wrtnac();
-        REPEAT(gauge_preview(saved, sizeof saved, GAUGE_KEY_WRTNAC, reply, sizeof reply, &command));
-    } else if (strcmp(kind, "estimate") == 0) {
-        *numbers |= gauge_rest(saved, sizeof saved, GAUGE_ESTIMATE_REST_MIN, 1192);
-        REPEAT(gauge_estimate(saved, sizeof saved, 3700, &estimate, &distance));
-    } else if (strcmp(kind, "rest-1") == 0)
+    else if (strcmp(kind, "rest-1") == 0)
         REPEAT(gauge_rest(saved, sizeof saved, 1, 1192));
     else if (strcmp(kind, "rest-100") == 0)
         REPEAT(gauge_rest(saved, sizeof saved, 100, 1192));
     else if (strcmp(kind, "rest-16875") == 0)
         REPEAT(gauge_rest(saved, sizeof saved, 16875, 1192));
     else
-        return repeat_from_done(kind, times, numbers);
+        return repeat_convert(kind, times, numbers) || repeat_prepared(kind, times, numbers);
     return true;
 }
 

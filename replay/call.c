@@ -23,7 +23,14 @@ const struct call_form call_forms[CALL_KINDS] = {
     [CALL_DONE] = {.word = "done", .is_command = true},
     [CALL_RESET] = {.word = "reset", .is_command = true},
     [CALL_PARTIAL] = {.word = "partial", .is_command = true},
+    [CALL_REPEAT] = {"repeat", 1, {{"N", 1, ROUNDS_MAX, false, false}}},
+    [CALL_END] = {.word = "end"},
 };
+
+bool call_is_one(const struct call *call)
+{
+    return call->kind != CALL_REPEAT && call->kind != CALL_END;
+}
 
 const char *call_prefix(const struct call *call)
 {

@@ -20,10 +20,12 @@ enum call_kind {
     CALL_DONE,
     CALL_RESET,
     CALL_PARTIAL,
+    CALL_REPEAT, /* no call, nor is the next: what stands between the two is repeated */
+    CALL_END,
     CALL_KINDS
 };
 
-enum { CALL_NUMBERS_MAX = 3 };
+enum { CALL_NUMBERS_MAX = 3, ROUNDS_MAX = 10000 };
 
 /* A line of a list, counted from 1. */
 struct place {
@@ -62,6 +64,9 @@ struct call_form {
 
 /* By kind. */
 extern const struct call_form call_forms[CALL_KINDS];
+
+/* Whether it is a call, and no repeat or end. */
+bool call_is_one(const struct call *call);
 
 /* What stands before the word of a call: the word of a preview before that of a command, else nothing. */
 const char *call_prefix(const struct call *call);

@@ -127,6 +127,37 @@ static bool read_bytes(struct span rest, struct call *call, struct bad_lines *ba
     return call->length > 0;
 }
 
+/* A bad line of the two below is reported once: a repeat begins and ends whatever its number is. */
+static bool read_repeat(struct list *list, struct span rest, struct call *call, struct bad_lines *bad)
+{
+    if (list->repeats++ >= REPEATS_DEEP_MAX) {
+        bad_line(bad, call->place, "repeat inside %d others; expected at most one around it", (int)REPEATS_DEEP_MAX);
+        return false;
+    }
+    list->repeat_lines[list->repeats - 1] = call->place.line;
+    return read_numbers(rest, call, bad);
+}
+
+static bool read_end(struct list *list, struct span rest, struct call *call, struct bad_lines *bad)
+{
+    if (list->repeats == 0) {
+        bad_line(bad, call->place, "end without repeat; expected repeat before it");
+        return false;
+    }
+    list->repeats--;
+    return read_numbers(rest, call, bad);
+}
+
+/* A repeat ends in the LIST in which it begins. */
+static void end_list(struct list *list, struct place last, struct bad_lines *bad)
+{
+    size_t open = list->repeats < REPEATS_DEEP_MAX ? list->repeats : REPEATS_DEEP_MAX;
+
+    if (open > 0)
+        bad_line(bad, last, "the list ends in the repeat of line %zu; expected end before that", list->repeat_lines[open - 1]);
+    list->repeats = 0;
+}
+
 static void open_bench(struct call *call)
 {
     call->kind = CALL_OPEN;
@@ -134,7 +165,36 @@ static void open_bench(struct call *call)
     call->length = sizeof bench_pack;
 }
 
-/* True if the line is right and makes a call. One that makes no call, or a bad one, which is reported, is false. */
+/* A bad line of open or load is reported once, not again by every call after it. */
+static bool read_gauge(struct list *list, struct span rest, struct call *call, struct bad_lines *bad)
+{
+    list->opened = true;
+    if (call->kind == CALL_OPEN && words_are(rest, 1, bench_word)) {
+        open_bench(call);
+        return true;
+    }
+    return read_bytes(rest, call, bad);
+}
+
+/* What stands after the first word. */
+static bool read_rest(struct list *list, struct span rest, struct call *call, struct bad_lines *bad)
+{
+    switch (call->kind) {
+    case CALL_OPEN:
+    case CALL_LOAD:
+        return read_gauge(list, rest, call, bad);
+    case CALL_PREVIEW:
+        return read_preview(rest, call, bad);
+    case CALL_REPEAT:
+        return read_repeat(list, rest, call, bad);
+    case CALL_END:
+        return read_end(list, rest, call, bad);
+    default:
+        return read_numbers(rest, call, bad);
+    }
+}
+
+/* True if the line is right and is a call, a repeat or an end. One that is none of them, or a bad one, which is reported, is false. */
 static bool read_call(struct list *list, struct span line, struct call *call, struct bad_lines *bad)
 {
     struct span rest = line, first;
@@ -149,24 +209,13 @@ static bool read_call(struct list *list, struct span line, struct call *call, st
     call->kind = kind_of(first);
     if (call->kind == CALL_KINDS) {
         bad_line(bad, call->place, "unknown word '%s'; expected open, load, window, rest, write, read, preview, estimate, nac, "
-                 "lmd, done, reset, partial or three numbers", word_shown(first, shown));
+                 "lmd, done, reset, partial, repeat, end or three numbers", word_shown(first, shown));
         return false;
     }
-    if (call->kind == CALL_PREVIEW)
-        return read_preview(rest, call, bad);
-    if (call->kind != CALL_OPEN && call->kind != CALL_LOAD)
-        return read_numbers(rest, call, bad);
-
-    /* A bad line of these two is reported once, not again by every call after it. */
-    list->opened = true;
-    if (call->kind == CALL_OPEN && words_are(rest, 1, bench_word)) {
-        open_bench(call);
-        return true;
-    }
-    return read_bytes(rest, call, bad);
+    return read_rest(list, rest, call, bad);
 }
 
-/* The same for c v t: it opens unless an earlier line does. */
+/* The same for c v t as for open: it opens unless an earlier line does. */
 static bool read_heading(struct list *list, struct call *call, struct bad_lines *bad)
 {
     bool opened = list->opened;
@@ -186,10 +235,11 @@ static bool read_line(struct list *list, struct span line, struct call *call, st
         return read_heading(list, call, bad);
     if (!read_call(list, line, call, bad))
         return false;
-    if (!list->opened)
-        bad_line(bad, call->place, "%s%s before any open; expected open, load or c v t before it", call_prefix(call),
-                 call_forms[call->kind].word);
-    return list->opened;
+    if (list->opened || !call_is_one(call))
+        return true;
+    bad_line(bad, call->place, "%s%s before any open; expected open, load or c v t before it", call_prefix(call),
+             call_forms[call->kind].word);
+    return false;
 }
 
 bool list_add(struct list *list, const struct text *text, const char *name, struct bad_lines *bad)
@@ -206,19 +256,32 @@ bool list_add(struct list *list, const struct text *text, const char *name, stru
             !append(list, &call))
             return false;
     }
+    end_list(list, place, bad);
     return true;
+}
+
+static uint64_t call_windows(const struct call *call)
+{
+    if (call->kind == CALL_WINDOW)
+        return 1;
+    return call->kind == CALL_REST && call->numbers[0] <= GAUGE_REST_MAX ? (uint64_t)call->numbers[0] : 0;
 }
 
 uint64_t list_windows(const struct list *list)
 {
-    uint64_t windows = 0;
+    uint64_t windows = 0, times[REPEATS_DEEP_MAX + 1] = {1};
+    size_t deep = 0;
 
     for (size_t i = 0; i < list->count; i++) {
         const struct call *call = &list->calls[i];
-        if (call->kind == CALL_WINDOW)
-            windows++;
-        else if (call->kind == CALL_REST && call->numbers[0] <= GAUGE_REST_MAX)
-            windows += (uint64_t)call->numbers[0];
+        if (call->kind == CALL_REPEAT) {
+            times[deep + 1] = times[deep] * (uint64_t)call->numbers[0];
+            deep++;
+        } else if (call->kind == CALL_END) {
+            deep--;
+        } else {
+            windows += times[deep] * call_windows(call);
+        }
     }
     return windows;
 }

@@ -1,6 +1,7 @@
 /* replay: runs lists of calls on a gauge and prints the registers after each call. */
 #include "calls.h"
 #include "list.h"
+#include "rounds.h"
 #include "saved.h"
 #include "table.h"
 #include "text.h"
@@ -85,13 +86,9 @@ static enum status make_calls(const struct options *options, const struct list *
     enum status status = STATUS_DONE;
     struct run run = {0};
     struct table table;
-    struct reply reply;
 
     table_begin(&table, options->all, list_windows(list));
-    for (size_t i = 0; i < list->count; i++) {
-        uint32_t number = call_make(&list->calls[i], &run, &reply);
-        table_row(&table, &list->calls[i], number, &run, &reply);
-    }
+    rounds_make(list, &run, &table);
     table_end(&table);
     if (fflush(stdout) != 0 || ferror(stdout)) {
         fprintf(stderr, "replay: standard output: cannot be written: %s\n", strerror(errno));

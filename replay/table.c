@@ -42,6 +42,7 @@ static const struct column columns[] = {
     {"SI", GAUGE_REG_SI, 2, DECIMAL},
     {"STTE", GAUGE_REG_STTE, 2, DECIMAL},
     {"CEDV", GAUGE_REG_CEDV, 2, DECIMAL},
+    {"CYCT", GAUGE_REG_CYCT, 2, DECIMAL},
 };
 
 static const struct {
@@ -153,7 +154,7 @@ void table_begin(struct table *table, bool all, uint64_t most_windows)
     printf(" call\n");
 }
 
-static void count_call(struct table *table, uint32_t number, struct place place)
+void table_count(struct table *table, const struct call *call, uint32_t number)
 {
     table->calls++;
     if (number == GAUGE_OK)
@@ -161,7 +162,7 @@ static void count_call(struct table *table, uint32_t number, struct place place)
     assert(number <= LAST_REFUSAL);
     table->refused++;
     if (table->refusals[number].count++ == 0)
-        table->refusals[number].first = place;
+        table->refusals[number].first = call->place;
 }
 
 /* What an accepted call handed out. */
@@ -175,7 +176,8 @@ static void print_reply(const struct table *table, const struct call *call, cons
         print_preview(table, reply);
 }
 
-void table_row(struct table *table, const struct call *call, uint32_t number, const struct run *run, const struct reply *reply)
+/* Time, number and registers, with a space after them. */
+static void print_standing(const struct table *table, uint32_t number, const struct run *run)
 {
     uint8_t registers[GAUGE_REGISTERS];
     char time[TIME_ROOM];
@@ -187,10 +189,26 @@ void table_row(struct table *table, const struct call *call, uint32_t number, co
     else
         print_no_registers(table);
     putchar(' ');
+}
+
+void table_row(struct table *table, const struct call *call, uint32_t number, const struct run *run, const struct reply *reply)
+{
+    print_standing(table, number, run);
     call_print(call);
     if (number == GAUGE_OK)
         print_reply(table, call, reply);
-    count_call(table, number, call->place);
+    table_count(table, call, number);
+}
+
+void table_repeat(uint32_t rounds)
+{
+    printf("# repeat %u\n", (unsigned)rounds);
+}
+
+void table_round(const struct table *table, uint32_t round, uint32_t rounds, uint32_t number, const struct run *run)
+{
+    print_standing(table, number, run);
+    printf("round %u of %u\n", (unsigned)round, (unsigned)rounds);
 }
 
 void table_end(const struct table *table)

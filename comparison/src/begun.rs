@@ -3,6 +3,7 @@
 use crate::both::Both;
 use crate::conversions;
 use crate::counts::Counts;
+use crate::cycles;
 use crate::difference::{same, Difference};
 use crate::rest_counts;
 use crate::table::{Kind, Part};
@@ -20,8 +21,8 @@ pub struct Begun {
     pub both: Both,
     /// None where the bytes hold no gauge.
     pub history: Option<History>,
-    /// Whether the gauge came from an older form.
-    pub from_older: bool,
+    /// The oldest form that the gauge came from.
+    pub from_form: u8,
     /// Whether a run is under way that was converted from an older form.
     pub converted_run: bool,
 }
@@ -35,7 +36,7 @@ impl Begun {
                 counts.add_number(part, Kind::Open, number);
                 same("number of opening", number, 0)?;
                 let history = Configuration::new(configuration).map(History::opened).expect("ILMD above 0");
-                Ok(Begun { both, history: Some(history), from_older: false, converted_run: false })
+                Ok(Begun { both, history: Some(history), from_form: saved::FORM, converted_run: false })
             }
             Start::Saved { bytes, accepted } => {
                 let held = saved::load(bytes);
@@ -43,8 +44,9 @@ impl Begun {
                 let history = history_of(held);
                 if let Some(history) = &history {
                     rest_counts::handed_in(counts, part, history.rest_count);
+                    cycles::handed_in(counts, part, history);
                 }
-                Ok(Begun { both: Both::new(bytes), history, from_older: false, converted_run: false })
+                Ok(Begun { both: Both::new(bytes), history, from_form: saved::FORM, converted_run: false })
             }
             Start::Converted { old, lent, readable } => {
                 let mut both = Both::new(lent);
@@ -59,9 +61,9 @@ impl Begun {
     /// The history begins at what the old bytes hold. Where they are refused, the lent bytes are left, with a gauge or not.
     fn converted(both: Both, old: &[u8], lent: &[u8], number: u32) -> Begun {
         let history = history_of(if number == 0 { forms::load(old) } else { saved::load(lent) });
-        let from_older = number == 0 && is_older(old);
-        let converted_run = from_older && has_run(&history);
-        Begun { both, history, from_older, converted_run }
+        let from_form = if number == 0 { old[0] } else { saved::FORM };
+        let converted_run = from_form < saved::FORM && has_run(&history);
+        Begun { both, history, from_form, converted_run }
     }
 }
 
@@ -75,9 +77,4 @@ fn history_of(held: Result<Gauge, u32>) -> Option<History> {
 
 pub fn has_run(history: &Option<History>) -> bool {
     matches!(history, Some(History { run: Some(_), .. }))
-}
-
-/// Whether bytes that were converted are of an older form.
-pub fn is_older(old: &[u8]) -> bool {
-    !old.starts_with(&[saved::FORM])
 }

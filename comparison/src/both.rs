@@ -106,8 +106,8 @@ impl Both {
         }
     }
 
-    /// Compares the shipped gauge with the history: h with H, LMD with L, VDQ and DCR with the run, and AR, the command bits and the
-    /// count of rest windows.
+    /// Compares the shipped gauge with the history: h with H, LMD with L, VDQ and DCR with the run, and AR, the command bits,
+    /// the count of rest windows and the cycles with their drain.
     pub fn same_history(&self, history: &History) -> Result<(), Difference> {
         let saved = self.shipped.bytes();
         let pair = |at: usize| i32::from(u16::from_le_bytes([saved[at], saved[at + 1]]));
@@ -118,6 +118,8 @@ impl Both {
         same("DCR and the history's R", grains(19), history.r())?;
         same("AR and the history's AR", pair(37), history.ar)?;
         same("command bits of MODE and of the history's MODE", saved[39] & 0x3B, history.mode & 0x3B)?;
-        same("count of rest windows and the history's", pair(41), history.rest_count)
+        same("count of rest windows and the history's", pair(41), history.rest_count)?;
+        same("CYCT and the history's cycles", pair(43), history.cycles)?;
+        same("cycle drain and the history's", grains(45), history.cycle_drain)
     }
 }

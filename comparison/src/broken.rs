@@ -1,13 +1,14 @@
 //! Saves that break one condition of acceptance and keep the others, each held to the conditions of its own form.
 
-use crate::fields::{Fields, CHGS, VDQ};
+use crate::fields::{Cycles, Fields, CHGS, VDQ};
 use crate::random::Random;
 use crate::table::Event;
+use reference::cycles::CYCLE_DRAIN_LIMIT;
 use reference::leak::GREATEST_DRAIN;
 use reference::saved;
 
 /// Numbers that are no form.
-const NO_FORMS: [(u8, Event); 7] = [
+const NO_FORMS: [(u8, Event); 8] = [
     (0, Event::BrokenFormZero),
     (saved::FORM + 1, Event::BrokenFormNext),
     (255, Event::BrokenFormGreatest),
@@ -15,13 +16,14 @@ const NO_FORMS: [(u8, Event); 7] = [
     (0x81, Event::BrokenFormOther),
     (0x82, Event::BrokenFormOther),
     (0x83, Event::BrokenFormOther),
+    (0x84, Event::BrokenFormOther),
 ];
 
 /// The least SI whose sixteenths two bytes do not hold: 4,096 × 16 would wrap to 0.
 const WRAPS: i64 = 4_096;
 
 pub fn broken(random: &mut Random, fields: &mut Fields) -> Event {
-    match random.below(9) {
+    match random.below(10) {
         0 => {
             let (form, event) = random.pick(&NO_FORMS);
             fields.form = form;
@@ -41,6 +43,7 @@ pub fn broken(random: &mut Random, fields: &mut Fields) -> Event {
         5 => broken_current(random, fields),
         6 => broken_measure(random, fields),
         7 => broken_standby(random, fields),
+        8 if fields.cycles.is_some() => broken_cycles(random, fields),
         _ => broken_flags(random, fields),
     }
 }
@@ -123,6 +126,21 @@ fn broken_standby(random: &mut Random, fields: &mut Fields) -> Event {
         _ if wide => Event::BrokenSiWide,
         _ => Event::BrokenSi,
     }
+}
+
+/// A cycle drain at its limit or above it (paper 02, A5). Every CYCT is accepted.
+fn broken_cycles(random: &mut Random, fields: &mut Fields) -> Event {
+    let Cycles { cyct, drain } = fields.cycles.unwrap_or_default();
+    let limit = CYCLE_DRAIN_LIMIT as u64;
+    let (drain, event) = match random.below(4) {
+        0 => (limit, Event::BrokenCyclesAtLimit),
+        1 => (random.pick(&[1 << 63, u64::MAX, (1 << 63) | drain]), Event::BrokenCyclesSign),
+        // The least such bit alone is above the limit.
+        2 => (drain | 1 << random.range(44, 62), Event::BrokenCyclesHigh),
+        _ => (limit + 1 + random.amount(1 << 62) as u64, Event::BrokenCycles),
+    };
+    fields.cycles = Some(Cycles { cyct, drain });
+    event
 }
 
 fn broken_flags(random: &mut Random, fields: &mut Fields) -> Event {

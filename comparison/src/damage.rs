@@ -7,7 +7,7 @@ use crate::counts::Counts;
 use crate::difference::{hexadecimal, Difference};
 use crate::fields::{self, Fields};
 use crate::gauges;
-use crate::older::{self, FORMER_LENGTH};
+use crate::older::{self, LENGTH_1_AND_2, LENGTH_3};
 use crate::random::Random;
 use crate::reshaped;
 use crate::table::{Event, Kind, Part};
@@ -49,7 +49,7 @@ pub fn trials(random: &mut Random, from_lists: &[Vec<u8>], counts: &mut Counts) 
 
 fn count(counts: &mut Counts, part: Part, save: &Save) {
     counts.add(part, save.event);
-    if matches!(save.event, Event::OlderWhole1 | Event::OlderWhole2) {
+    if matches!(save.event, Event::OlderWhole1 | Event::OlderWhole2 | Event::OlderWhole3) {
         return;
     }
     reshaped::count(counts, part, &save.bytes);
@@ -57,7 +57,8 @@ fn count(counts: &mut Counts, part: Part, save: &Save) {
         (Err(_), _) => Event::DamagedRefused,
         (Ok(_), Some(1)) => Event::DamagedForm1,
         (Ok(_), Some(2)) => Event::DamagedForm2,
-        (Ok(_), _) => Event::DamagedForm3,
+        (Ok(_), Some(3)) => Event::DamagedForm3,
+        (Ok(_), _) => Event::DamagedForm4,
     };
     counts.add(part, event);
 }
@@ -95,7 +96,11 @@ fn bytes(random: &mut Random, limit: u64) -> Vec<u8> {
 /// A save of an older form, whole or damaged.
 fn of_older_form(random: &mut Random, fields: Fields) -> Save {
     if random.one_in(6) {
-        let event = if fields.form == 1 { Event::OlderWhole1 } else { Event::OlderWhole2 };
+        let event = match fields.form {
+            1 => Event::OlderWhole1,
+            2 => Event::OlderWhole2,
+            _ => Event::OlderWhole3,
+        };
         Save { event, bytes: fields.bytes(), readable: Some(true) }
     } else {
         damaged(random, fields)
@@ -105,7 +110,7 @@ fn of_older_form(random: &mut Random, fields: Fields) -> Save {
 fn damaged(random: &mut Random, mut fields: Fields) -> Save {
     let mut bytes = fields.bytes();
     let at = random.below(bytes.len() as u64) as usize;
-    let (event, readable) = match random.below(10) {
+    let (event, readable) = match random.below(11) {
         0 => {
             bytes[at] ^= 1 << random.below(8);
             (Event::BitFlipped, None)
@@ -127,6 +132,11 @@ fn damaged(random: &mut Random, mut fields: Fields) -> Save {
             bytes = fields.bytes();
             (Event::CountReplaced, Some(true))
         }
+        6 if fields.cycles.is_some() => {
+            fields.set_cycles(values::cyct(random), values::cycle_drain(random, fields.full_charge()));
+            bytes = fields.bytes();
+            (Event::CyclesReplaced, Some(true))
+        }
         _ => {
             let event = broken(random, &mut fields);
             bytes = fields.bytes();
@@ -146,7 +156,7 @@ pub fn opening(random: &mut Random, counts: &mut Counts) -> Result<(), (String, 
         configuration.resize(random.below(21) as usize, random.pick(&[0, 1]));
     }
     let length = match random.below(6) {
-        0 => random.pick(&[FORMER_LENGTH, saved::LENGTH - 1, saved::LENGTH + 1]),
+        0 => random.pick(&[LENGTH_1_AND_2, LENGTH_3, saved::LENGTH - 1, saved::LENGTH + 1]),
         1 => random.below(65) as usize,
         _ => saved::LENGTH,
     };
@@ -155,6 +165,7 @@ pub fn opening(random: &mut Random, counts: &mut Counts) -> Result<(), (String, 
     let called = format!("  open    {}\n  saved   {}\n", hexadecimal(&configuration), hexadecimal(&content));
     let number = both.open(&configuration).map_err(|difference| (called.clone(), difference))?;
     counts.add_number(Part::Damaged, Kind::Open, number);
-    counts.add_if(Part::Damaged, Event::OpenIntoFormer, number == REPLY && length == FORMER_LENGTH);
+    counts.add_if(Part::Damaged, Event::OpenInto41, number == REPLY && length == LENGTH_1_AND_2);
+    counts.add_if(Part::Damaged, Event::OpenInto43, number == REPLY && length == LENGTH_3);
     both.same_registers().map_err(|difference| (called, difference))
 }

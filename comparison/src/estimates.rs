@@ -63,8 +63,8 @@ pub fn refused(counts: &mut Counts, part: Part, rest_count: Option<i32>, voltage
     }
 }
 
-/// Counts an estimate on a gauge that came from an older form, which had no count.
-pub fn from_older(counts: &mut Counts, part: Part, number: u32) {
+/// Counts an estimate on a gauge that came from form 1 or 2, which have no count.
+pub fn without_count(counts: &mut Counts, part: Part, number: u32) {
     counts.add_if(part, Event::EstimateFromOlder, number == 0);
     counts.add_if(part, Event::EstimateOlderUnrested, number == NOT_RESTED);
 }

@@ -1,6 +1,7 @@
 //! Which events a call is. This only counts: no comparison rests on it.
 
 use crate::counts::Counts;
+use crate::cycles;
 use crate::estimates;
 use crate::fields;
 use crate::previews;
@@ -24,6 +25,8 @@ pub struct Standing {
     pub ar: i32,
     pub si_sixteenths: i32,
     pub rest_count: i32,
+    pub cycles: i32,
+    pub cycle_drain: i64,
 }
 
 impl Standing {
@@ -38,6 +41,8 @@ impl Standing {
             ar: history.ar,
             si_sixteenths: i32::from(fields::si(bytes)),
             rest_count: history.rest_count,
+            cycles: history.cycles,
+            cycle_drain: history.cycle_drain,
         }
     }
 }
@@ -60,20 +65,30 @@ pub fn count(counts: &mut Counts, part: Part, before: &Standing, after: &Standin
             window(counts, part, before, current, voltage, temperature);
             standby::count(counts, part, before, after, before.configuration.counted(current));
             rest_counts::window(counts, part, before, current);
+            cycles::window(counts, part, before, after, (current, voltage, temperature));
         }
         Call::Rest { windows, temperature } => {
             rests::count(counts, part, before, after, windows, temperature);
             rest_counts::rest(counts, part, before, windows);
+            cycles::rest(counts, part, before, after);
         }
         Call::Write { address, value } => write(counts, part, before, address, value),
-        Call::Read { address, count, .. } => {
-            counts.add_if(part, Event::ReadAll, count == 128);
-            let within = |at: u32| at % 2 == 1 && (0x03..0x1E).contains(&at) && at != 0x0B;
-            counts.add_if(part, Event::ReadHalf, within(address) || within(address + count));
+        Call::Read { address, count, .. } => read(counts, part, before, address, count),
+        Call::Preview { key, .. } => {
+            previews::count(counts, part, before, key);
+            cycles::preview(counts, part, before, key);
         }
-        Call::Preview { key, .. } => previews::count(counts, part, before, key),
         Call::Estimate { voltage } => estimates::count(counts, part, before, voltage),
     }
+}
+
+fn read(counts: &mut Counts, part: Part, before: &Standing, address: u32, count: u32) {
+    counts.add_if(part, Event::ReadAll, count == 128);
+    let end = address + count;
+    let within = |at: u32| at % 2 == 1 && (0x03..0x1E).contains(&at) && at != 0x0B;
+    counts.add_if(part, Event::ReadHalf, within(address) || within(end));
+    let of_cyct = before.cycles > 0 && (address == 0x2B || end == 0x2B);
+    counts.add_if(part, Event::ReadHalfCyct, of_cyct);
 }
 
 fn window(counts: &mut Counts, part: Part, before: &Standing, a: i32, v: i32, t: i32) {
@@ -189,4 +204,5 @@ fn carried_out(counts: &mut Counts, part: Part, before: &Standing, picked: Comma
     let resets = matches!(picked, Command::Prst | Command::Frst);
     counts.add_if(part, Event::ResetOfStandby, resets && before.si_sixteenths != 16 * before.configuration.s0());
     rest_counts::command(counts, part, before, picked);
+    cycles::command(counts, part, before, picked);
 }

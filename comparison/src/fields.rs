@@ -3,12 +3,20 @@
 use crate::random::Random;
 use crate::values;
 use reference::configuration::Configuration;
+use reference::cycles::CYCLE_DRAIN_LIMIT;
 use reference::leak::{GRAINS_PER_COUNT, GREATEST_DRAIN};
 use reference::refusal::CURRENT_MAX;
 use reference::saved;
 
 pub const CHGS: u8 = 0x80;
 pub const VDQ: u8 = 0x04;
+
+/// CYCT and the cycle drain (paper 02, A5).
+#[derive(Clone, Copy, Default)]
+pub struct Cycles {
+    pub cyct: u16,
+    pub drain: u64,
+}
 
 /// The saved gauge field by field, without any condition. SI is the stored number, whose unit is the form's own. A field that the form
 /// lacks is none.
@@ -27,11 +35,12 @@ pub struct Fields {
     pub mode: u8,
     pub flags: u8,
     pub rest_count: Option<u16>,
+    pub cycles: Option<Cycles>,
 }
 
 impl Fields {
-    /// The 41 bytes in the order of paper 01, "Saved gauge", low byte first, and then what later forms append (paper 02, A4). Forms 1
-    /// and 2 differ in what SI means alone.
+    /// The 41 bytes in the order of paper 01, "Saved gauge", low byte first, and then what later forms append (paper 02, A4 and A5).
+    /// Forms 1 and 2 differ in what SI means alone.
     pub fn bytes(&self) -> Vec<u8> {
         let mut bytes = vec![self.form];
         bytes.extend(self.configuration);
@@ -45,6 +54,10 @@ impl Fields {
         bytes.extend(self.ar.to_le_bytes());
         bytes.extend([self.mode, self.flags]);
         bytes.extend(self.rest_count.iter().flat_map(|count| count.to_le_bytes()));
+        if let Some(cycles) = self.cycles {
+            bytes.extend(cycles.cyct.to_le_bytes());
+            bytes.extend(cycles.drain.to_le_bytes());
+        }
         bytes
     }
 
@@ -66,6 +79,7 @@ impl Fields {
             mode: bytes[39],
             flags: bytes[40],
             rest_count: bytes.get(41..43).map(|_| pair(41)),
+            cycles: bytes.get(43..53).map(|_| Cycles { cyct: pair(43), drain: eight(45) }),
         }
     }
 
@@ -95,6 +109,11 @@ impl Fields {
     pub fn set_run(&mut self, dcr: i64) {
         self.flags |= VDQ;
         self.dcr = dcr.clamp(0, GREATEST_DRAIN) as u64;
+    }
+
+    /// Sets the cycles, the drain held within what is accepted.
+    pub fn set_cycles(&mut self, cyct: u16, drain: i64) {
+        self.cycles = Some(Cycles { cyct, drain: drain.clamp(0, CYCLE_DRAIN_LIMIT - 1) as u64 });
     }
 
     /// Sets the charge, held within what is accepted.
@@ -133,8 +152,10 @@ pub fn valid(random: &mut Random) -> Fields {
         mode: random.byte(),
         flags,
         rest_count: Some(values::rest_count(random)),
+        cycles: None,
     };
     fields.si = standby(random, fields.greatest_si());
+    fields.set_cycles(values::cyct(random), values::cycle_drain(random, fields.full_charge()));
     charge(random, &mut fields);
     if fields.has_run() {
         drain(random, &mut fields);

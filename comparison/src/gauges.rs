@@ -1,5 +1,6 @@
 //! Trials on gauges handed in, many of them aimed at the grain on which a rule turns.
 
+use crate::aimed_cycles;
 use crate::aimed_estimates;
 use crate::aimed_rests;
 use crate::fields::{self, Fields};
@@ -18,7 +19,7 @@ use reference::refusal::VOLTAGE_MIN;
 /// Grains that teach one count: 15 × G / 16.
 const GRAINS_TAUGHT: i64 = 15 * GRAINS_PER_COUNT / 16;
 
-/// One trial in so many is a whole list, which goes on from a gauge in an older form.
+/// One trial in so many is a whole list, which goes on from any gauge.
 const LIST_EVERY: u64 = 400;
 
 /// One trial in so many is a sweep over all entries of the estimate's table.
@@ -26,7 +27,7 @@ const SWEEP_EVERY: u64 = 4_000;
 
 pub fn trial(random: &mut Random) -> Trial {
     if random.one_in(LIST_EVERY) {
-        return lists::updated(Random::new(random.next()));
+        return lists::begun(Random::new(random.next()));
     }
     if random.one_in(SWEEP_EVERY) {
         return aimed_estimates::sweep(random);
@@ -41,10 +42,8 @@ pub fn trial(random: &mut Random) -> Trial {
 
 /// The gauge as saved bytes, or converted, from an older form, which loses what that form lacks, or from the newest.
 fn start(random: &mut Random, fields: &Fields) -> Start {
-    match random.below(6) {
-        0 => Start::converted(fields.bytes()),
-        1 => Start::converted(older::form_1(fields).bytes()),
-        2 => Start::converted(older::form_2(fields).bytes()),
+    match random.below(8) {
+        form @ 1..=4 => Start::converted(older::in_form(form as u8, fields).bytes()),
         _ => Start::Saved { bytes: fields.bytes(), accepted: Some(true) },
     }
 }
@@ -52,6 +51,9 @@ fn start(random: &mut Random, fields: &Fields) -> Start {
 fn first_calls(random: &mut Random, fields: &mut Fields) -> Vec<Call> {
     if random.one_in(6) {
         return aimed_estimates::calls(random, fields);
+    }
+    if random.one_in(4) {
+        return aimed_cycles::calls(random, fields);
     }
     let call = match random.below(10) {
         0 => full(random, fields),
@@ -140,7 +142,7 @@ fn passes(random: &mut Random, fields: &mut Fields) -> Call {
 }
 
 /// A window at E1 whose run teaches a whole number of counts, or one grain beside it.
-fn learns(random: &mut Random, fields: &mut Fields) -> Call {
+pub fn learns(random: &mut Random, fields: &mut Fields) -> Call {
     let configuration = fields.meaning();
     let heavy = random.range(-1, 20) + random.amount(27_000);
     let current = -(i64::from(configuration.standby_limit()) + heavy).clamp(1, 28_011) as i32;

@@ -1,5 +1,6 @@
 //! Lists of calls, put together from scenes.
 
+use crate::cycle_scenes;
 use crate::estimate_scenes;
 use crate::host;
 use crate::random::Random;
@@ -16,6 +17,9 @@ const LONG_RUN_EVERY: u64 = 100;
 const REST_OF_DAYS_EVERY: u64 = 400;
 const WHOLE_TABLE_EVERY: u64 = 400;
 
+/// One list in so many brings CYCT to its stop, which alone is some 1,650 windows.
+const OLD_AGE_EVERY: u64 = 400;
+
 /// One scene in so many is a steady light load, which is some dozens of windows.
 const STANDBY_EVERY: u64 = 80;
 
@@ -30,9 +34,9 @@ pub fn list(random: Random) -> Trial {
     written(Writer::new(random))
 }
 
-/// A list of a handset that was updated mid-drive: it goes on from a gauge in an older form.
-pub fn updated(random: Random) -> Trial {
-    written(Writer::updated(random))
+/// A list that goes on from any gauge; every second one is of a handset that was updated mid-drive, with a gauge in an older form.
+pub fn begun(random: Random) -> Trial {
+    written(Writer::begun(random))
 }
 
 fn written(mut writer: Writer) -> Trial {
@@ -48,6 +52,9 @@ fn written(mut writer: Writer) -> Trial {
     }
     if writer.random.one_in(WHOLE_TABLE_EVERY) {
         estimate_scenes::whole_table(&mut writer);
+    }
+    if writer.random.one_in(OLD_AGE_EVERY) {
+        cycle_scenes::to_the_stop(&mut writer);
     }
     let scenes = writer.random.range(3, 30);
     for _ in 0..scenes {
@@ -66,7 +73,7 @@ fn scene(writer: &mut Writer) {
     if writer.random.one_in(RESTED_EVERY) {
         return estimate_scenes::rested(writer);
     }
-    let kind = writer.random.below(24);
+    let kind = writer.random.below(26);
     match kind {
         0..=2 => (0..writer.random.amount(12)).for_each(|_| scenes::any_window(writer)),
         3 | 4 => scenes::charge_up(writer),
@@ -79,6 +86,7 @@ fn scene(writer: &mut Writer) {
         16 => host::capacity(writer),
         17 => host::look(writer),
         18 => rest_scenes::aimed(writer),
+        24 | 25 => cycle_scenes::cycles(writer),
         _ => {
             let call = any_call(kind, writer);
             writer.call(call);
@@ -86,7 +94,7 @@ fn scene(writer: &mut Writer) {
     }
 }
 
-/// A single call, of one kind for each number from 19 on.
+/// A single call, of one kind for each number from 19 to 23.
 fn any_call(kind: u64, writer: &mut Writer) -> Call {
     match kind {
         19 => host::any_write(&mut writer.random),

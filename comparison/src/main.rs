@@ -2,6 +2,8 @@
 //!
 //! Ends with status 0 only if there was no difference and every event of the table occurred.
 
+mod ageing;
+mod aimed_cycles;
 mod aimed_estimates;
 mod aimed_rests;
 mod begun;
@@ -9,6 +11,8 @@ mod both;
 mod broken;
 mod conversions;
 mod counts;
+mod cycle_scenes;
+mod cycles;
 mod damage;
 mod difference;
 mod estimate_scenes;

@@ -1,9 +1,11 @@
 //! A trial while it runs: the gauge on both sides, and the history that its calls give. Everything is compared after every step.
 
-use crate::begun::{has_run, is_older, Begun, LENT};
+use crate::ageing;
+use crate::begun::{has_run, Begun, LENT};
 use crate::both::Both;
 use crate::conversions;
 use crate::counts::Counts;
+use crate::cycles;
 use crate::difference::{same, same_bytes, Difference};
 use crate::estimates;
 use crate::events::{self, Standing};
@@ -18,6 +20,7 @@ use crate::trial::Start;
 use reference::fixing::{FixingPoint, FixingPoints};
 use reference::history::Call;
 use reference::refusal::SAVED;
+use reference::saved;
 
 pub struct Running<'a> {
     now: Begun,
@@ -41,7 +44,7 @@ impl<'a> Running<'a> {
     pub fn step(&mut self, step: &Step) -> Result<(), Difference> {
         match step {
             Step::Call(call) => self.call(call)?,
-            Step::Update => self.update()?,
+            Step::Update { form } => self.update(*form)?,
         }
         self.same_standing()
     }
@@ -60,11 +63,11 @@ impl<'a> Running<'a> {
             self.follow_run(answer.unwrap_or_default());
         }
         match (number, before, self.standing()) {
-            (0, Some(before), Some(after)) => events::count(self.counts, self.part, &before, &after, call),
+            (0, Some(before), Some(after)) => self.count_accepted(&before, &after, call),
             (_, before, _) => self.count_refused(before, call, number),
         }
-        if let (Call::Estimate { .. }, true) = (call, self.now.from_older) {
-            estimates::from_older(self.counts, self.part, number);
+        if let (Call::Estimate { .. }, 1 | 2) = (call, self.now.from_form) {
+            estimates::without_count(self.counts, self.part, number);
         }
         Ok(())
     }
@@ -80,10 +83,18 @@ impl<'a> Running<'a> {
         Ok(())
     }
 
+    fn count_accepted(&mut self, before: &Standing, after: &Standing, call: &Call) {
+        events::count(self.counts, self.part, before, after, call);
+        ageing::count(self.counts, self.part, before.cycles, &self.now.both.reference);
+        let counted = after.cycles > before.cycles && self.now.from_form < saved::FORM;
+        self.counts.add_if(self.part, Event::CycleFromOlder, counted);
+    }
+
     /// Counts what is told of a refused call beside its number.
     fn count_refused(&mut self, before: Option<Standing>, call: &Call, number: u32) {
         if let Some(before) = &before {
             rest_counts::refused(self.counts, self.part, before, call);
+            cycles::refused(self.counts, self.part, before, call);
         }
         let rest_count = before.map(|before| before.rest_count);
         match *call {
@@ -105,19 +116,21 @@ impl<'a> Running<'a> {
         self.now.converted_run &= has_run(&self.now.history) && !another;
     }
 
-    /// An older form of the bytes is converted, which gives the bytes again. The history goes on.
-    fn update(&mut self) -> Result<(), Difference> {
+    /// The bytes in a form are converted, which gives the bytes again, but for what the form lacks. The history goes on.
+    fn update(&mut self, form: u8) -> Result<(), Difference> {
         let before = self.now.both.reference.clone();
-        let old = older::re_expressed(&before);
+        let old = older::re_expressed(form, &before);
         let mut both = Both::new(&LENT);
         let number = both.convert(&old)?;
         conversions::count(self.counts, self.part, &old, &LENT, number);
-        if self.now.history.is_some() {
+        if let Some(history) = &mut self.now.history {
             same("number of converting a gauge", number, 0)?;
-            same_bytes("converted bytes and those before the update", both.shipped.bytes(), &before)?;
+            let carried_over = older::carried_over(form, &before);
+            same_bytes("converted bytes and those before the update", both.shipped.bytes(), &carried_over)?;
+            older::forget(form, history);
             self.now.both = both;
-            self.now.from_older |= is_older(&old);
-            self.now.converted_run |= is_older(&old) && has_run(&self.now.history);
+            self.now.from_form = self.now.from_form.min(form);
+            self.now.converted_run |= form < saved::FORM && has_run(&self.now.history);
         }
         Ok(())
     }

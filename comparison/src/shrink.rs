@@ -153,7 +153,7 @@ fn argument(step: &mut Step, field: usize, set: Option<i64>) -> Option<(i64, i64
     }
     let call = match step {
         Step::Call(call) => call,
-        Step::Update => return None,
+        Step::Update { .. } => return None,
     };
     match (call, field) {
         (Call::Window { current, .. }, 0) => field!(current, 0),

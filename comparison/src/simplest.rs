@@ -61,8 +61,7 @@ fn opened(form: u8) -> Vec<u8> {
     let mut bytes = vec![0; saved::LENGTH];
     calls::open(&BENCH_PACK, &mut bytes);
     match form {
-        1 => older::form_1(&Fields::of(&bytes)).bytes(),
-        2 => older::form_2(&Fields::of(&bytes)).bytes(),
+        1..=3 => older::in_form(form, &Fields::of(&bytes)).bytes(),
         _ => bytes,
     }
 }

@@ -6,8 +6,8 @@ use reference::history::Call;
 pub enum Step {
     /// A call on the gauge as the step before left it.
     Call(Call),
-    /// The handset's firmware is updated: the bytes stand there in an older form, where one can hold them, and are converted.
-    Update,
+    /// The handset's firmware is updated: the bytes stand there in a form and are converted.
+    Update { form: u8 },
 }
 
 impl From<Call> for Step {
@@ -21,7 +21,7 @@ impl Step {
     pub fn text(&self) -> String {
         match self {
             Step::Call(call) => call_text(call),
-            Step::Update => String::from("update  the saved bytes, put into an older form, are converted"),
+            Step::Update { form } => format!("update  the saved bytes, put into form {form}, are converted"),
         }
     }
 }

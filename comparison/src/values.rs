@@ -4,7 +4,9 @@ use crate::random::Random;
 use crate::rest_steps::steps;
 use reference::bench::BENCH_PACK;
 use reference::configuration::Configuration;
+use reference::cycles::{CYCLES_AN_AGE_STEP, CYCLES_MAX, CYCLE_DRAIN_LIMIT};
 use reference::gauge::REST_COUNT_MAX;
+use reference::leak::GRAINS_PER_COUNT;
 use reference::refusal::{CURRENT_MAX, TEMPERATURE_MAX, TEMPERATURE_MIN, VOLTAGE_MAX, VOLTAGE_MIN};
 use reference::refusal::{ESTIMATE_REST_MIN, ESTIMATE_VOLTAGE_MAX, ESTIMATE_VOLTAGE_MIN};
 
@@ -31,7 +33,7 @@ fn extremes(random: &mut Random) -> [u8; 10] {
         &[0x00, 0xFF, 0xF0, 0x0F, 0x21, 0x2F],
         &[0, 1, 16, 255],
         &[0x00, 0x01, 0x02, 0x03, 0x80, 0x82, 0xFF],
-        &[0x00, 0xFF],
+        &[0x00, 0x01, 0x02, 0x03, 0x40, 0xC0, 0xFC, 0xFD, 0xFE, 0xFF],
         &[0x00, 0x6C, 0xF8, 0xFF, 0x07],
         &[0x00, 0x15, 0x07, 0xF8, 0xFF],
     ];
@@ -102,7 +104,7 @@ pub fn preview_length(random: &mut Random) -> usize {
     match random.below(8) {
         0 => 127,
         1 => 129,
-        2 => random.pick(&[0, 0, 1, 43, 64, 126, 130, 256, 384]),
+        2 => random.pick(&[0, 0, 1, 53, 64, 126, 130, 256, 384]),
         _ => 128,
     }
 }
@@ -119,6 +121,35 @@ pub fn rest_count(random: &mut Random) -> u16 {
         _ => random.range(0, stop),
     };
     count as u16
+}
+
+/// CYCT: none, few, at a step of age or beside one, at its stop or near it, or any (paper 02, A5).
+pub fn cyct(random: &mut Random) -> u16 {
+    let stop = i64::from(CYCLES_MAX);
+    let step = i64::from(CYCLES_AN_AGE_STEP);
+    let cyct = match random.below(8) {
+        0 => 0,
+        1 => stop - random.range(0, 1),
+        2 => stop - random.amount(70),
+        3 | 4 => step * random.amount(stop / step) + random.range(-1, 1),
+        5 => random.range(0, stop),
+        _ => random.amount(stop),
+    };
+    cyct.max(0) as u16
+}
+
+/// A cycle drain: none, at LMD × G or several of it or one grain beside that, at its limit or near it, or any (paper 02, A5).
+pub fn cycle_drain(random: &mut Random, full_charge: i64) -> i64 {
+    let greatest = CYCLE_DRAIN_LIMIT - 1;
+    let drain = match random.below(8) {
+        0 => 0,
+        1 => full_charge + random.range(-1, 1),
+        2 => full_charge * random.amount(40) + random.range(-1, 1),
+        3 => greatest - random.amount(40 * GRAINS_PER_COUNT),
+        4 => random.amount(greatest),
+        _ => random.range(0, full_charge - 1),
+    };
+    drain.clamp(0, greatest)
 }
 
 /// The voltage of an estimate: in the table, at one of the points of its rule or between two entries, at its edges, or outside.

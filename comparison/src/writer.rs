@@ -7,10 +7,10 @@ use crate::step::Step;
 use crate::trial::{Start, Trial};
 use crate::values;
 use reference::configuration::Configuration;
-use reference::forms;
 use reference::history::{Call, History};
 use reference::leak::{leak, w, GRAINS_PER_COUNT, GRAINS_PER_UNIT};
 use reference::refusal::{CURRENT_MAX, VOLTAGE_MAX, VOLTAGE_MIN};
+use reference::{forms, saved};
 
 /// One command in so many is previewed before its key is written.
 const LOOK_EVERY: u64 = 3;
@@ -31,14 +31,18 @@ impl Writer {
         Writer { random, configuration, history: History::opened(configuration), start, steps: Vec::new() }
     }
 
-    /// A list that goes on from any gauge in an older form, which is converted first. A reference that refuses it is found when the
-    /// trial begins.
-    pub fn updated(mut random: Random) -> Writer {
+    /// A list that goes on from any gauge, handed in or, in an older form, converted first. A reference that refuses it is found when
+    /// the trial begins.
+    pub fn begun(mut random: Random) -> Writer {
         let newest = fields::valid(&mut random);
-        let fields = older::any(&mut random, &newest);
-        let (configuration, old) = (fields.meaning(), fields.bytes());
-        let history = forms::load(&old).map_or_else(|_| History::opened(configuration), |gauge| History::begun(&gauge));
-        Writer { random, configuration, history, start: Start::converted(old), steps: Vec::new() }
+        let fields = if random.one_in(2) { newest } else { older::any(&mut random, &newest) };
+        let (configuration, bytes) = (fields.meaning(), fields.bytes());
+        let history = forms::load(&bytes).map_or_else(|_| History::opened(configuration), |gauge| History::begun(&gauge));
+        let start = match fields.form {
+            saved::FORM => Start::Saved { bytes, accepted: Some(true) },
+            _ => Start::converted(bytes),
+        };
+        Writer { random, configuration, history, start, steps: Vec::new() }
     }
 
     pub fn trial(self) -> Trial {
@@ -51,9 +55,12 @@ impl Writer {
         self.steps.push(call.into());
     }
 
-    /// The handset's firmware is updated. The history goes on as if nothing had been.
+    /// The handset's firmware is updated, from the newest form in every second one. The history goes on as if nothing had been, but for
+    /// what the form lacks.
     pub fn update(&mut self) {
-        self.steps.push(Step::Update);
+        let form = self.random.pick(&[1, 2, 3, saved::FORM, saved::FORM, saved::FORM]);
+        older::forget(form, &mut self.history);
+        self.steps.push(Step::Update { form });
     }
 
     pub fn window(&mut self, current: i32, voltage: i32, temperature: i32) {
@@ -142,6 +149,12 @@ impl Writer {
         let full = i64::from(self.history.l) * GRAINS_PER_COUNT;
         let missing = full - self.history.h() + leak(self.history.h(), self.configuration.sd(), w(t));
         (missing + GRAINS_PER_UNIT - 1) / GRAINS_PER_UNIT
+    }
+
+    /// The amount of discharging current that just completes a cycle in the next window; 0 where the drain has a whole one already.
+    pub fn discharge_to_cycle(&self) -> i64 {
+        let missing = i64::from(self.history.l) * GRAINS_PER_COUNT - self.history.cycle_drain;
+        ((missing + GRAINS_PER_UNIT - 1) / GRAINS_PER_UNIT).max(0)
     }
 
     /// The amount of discharging current that just empties the cell in the next window at t.

@@ -41,12 +41,22 @@ uint32_t command(uint8_t bit, uint8_t key)
     return gauge_write(saved, sizeof saved, GAUGE_REG_CTRL, key);
 }
 
+static unsigned pair(enum gauge_register address)
+{
+    uint8_t bytes[2];
+
+    must("gauge_read", gauge_read(saved, sizeof saved, address, sizeof bytes, bytes, sizeof bytes, 0));
+    return gauge_pair(bytes);
+}
+
 unsigned at_rate(void)
 {
-    uint8_t ar[2];
+    return pair(GAUGE_REG_AR);
+}
 
-    must("gauge_read", gauge_read(saved, sizeof saved, GAUGE_REG_AR, sizeof ar, ar, sizeof ar, 0));
-    return gauge_pair(ar);
+unsigned cycles(void)
+{
+    return pair(GAUGE_REG_CYCT);
 }
 
 void write_at_rate(unsigned value)

@@ -1,4 +1,4 @@
-/* What the four example programs share: the gauge's bytes, calls that have to succeed, commands of the host, and registers shown. */
+/* What the five example programs share: the gauge's bytes, calls that have to succeed, commands of the host, and registers shown. */
 #ifndef FIRMWARE_H
 #define FIRMWARE_H
 
@@ -22,6 +22,9 @@ uint32_t command(uint8_t bit, uint8_t key);
 
 unsigned at_rate(void);
 void write_at_rate(unsigned value);
+
+/* CYCT. */
+unsigned cycles(void);
 
 /* The registers that the programs show. */
 struct shown {

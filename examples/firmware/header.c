@@ -1,14 +1,11 @@
 /*
- * Holds the header's limits, lengths, forms, commands and configuration addresses to the gauge: what lies on a limit is accepted, and what lies
+ * Holds the header's limits, lengths, commands and configuration addresses to the gauge: what lies on a limit is accepted, and what lies
  * just beyond is refused with the limit's own number. The addresses of the other registers are held by replay, whose tables name them. The two
- * spellings of the version agree, and no two numbers have one text.
+ * spellings of the version agree, and no two numbers have one text. What the header says of the saved bytes is held by header_saved.c.
  */
 #include "bench_pack.h"
 #include "gauge.h"
-#include "older_forms.h"
 
-#include <limits.h>
-#include <stdbool.h>
 #include <stdio.h>
 #include <string.h>
 
@@ -151,76 +148,6 @@ static void table_step(void)
     }
 }
 
-/* The count of rest windows, which is the last pair of the saved bytes, after so many of them. */
-static unsigned rest_count(uint32_t windows)
-{
-    uint8_t saved[GAUGE_SAVED_LENGTH] = {0};
-    uint32_t number = gauge_open(bench_pack, sizeof bench_pack, saved, sizeof saved);
-
-    while (number == GAUGE_OK && windows > 0) {
-        uint32_t count = windows < GAUGE_REST_MAX ? windows : GAUGE_REST_MAX;
-        number = gauge_rest(saved, sizeof saved, count, TEMPERATURE);
-        windows -= count;
-    }
-    return number != GAUGE_OK ? UINT_MAX : gauge_pair(saved + GAUGE_SAVED_LENGTH - 2);
-}
-
-static void rest_counts(void)
-{
-    if (rest_count(GAUGE_REST_COUNT_MAX - 1) != GAUGE_REST_COUNT_MAX - 1 || rest_count(GAUGE_REST_COUNT_MAX) != GAUGE_REST_COUNT_MAX ||
-        rest_count(GAUGE_REST_COUNT_MAX + 1) != GAUGE_REST_COUNT_MAX)
-        fail("the count of rest windows stops elsewhere");
-}
-
-/* By form, up to the newest one, which is what gauge_open makes. */
-static const struct {
-    const uint8_t *bytes;
-    size_t length;
-} older_forms[GAUGE_FORM] = {
-    [1] = {kept_form_1, sizeof kept_form_1},
-    [2] = {kept_form_2, sizeof kept_form_2},
-};
-
-static bool is_form(unsigned number)
-{
-    return number >= GAUGE_FORM_OLDEST && number <= GAUGE_FORM;
-}
-
-/* Converts as many bytes as asked for of a gauge in that form. A number that is no form stands on a gauge of the newest one. */
-static uint32_t convert(unsigned form, size_t length)
-{
-    uint8_t old[GAUGE_SAVED_LENGTH + 1] = {0}, saved[GAUGE_SAVED_LENGTH] = {0};
-
-    if (length > sizeof old)
-        return GAUGE_REFUSED_SAVED;
-    if (is_form(form) && form != GAUGE_FORM)
-        memcpy(old, older_forms[form].bytes, older_forms[form].length);
-    else if (gauge_open(bench_pack, sizeof bench_pack, old, GAUGE_SAVED_LENGTH) != GAUGE_OK || old[0] != GAUGE_FORM)
-        return GAUGE_REFUSED_SAVED;
-    old[0] = (uint8_t)form;
-    uint32_t number = gauge_convert(old, length, saved, sizeof saved);
-    return number == GAUGE_OK && saved[0] != GAUGE_FORM ? GAUGE_REFUSED_SAVED : number;
-}
-
-/* Each form is taken in its own length alone and comes out as the newest one. The other numbers are no forms in any length. */
-static void forms(void)
-{
-    for (unsigned number = 0; number <= UINT8_MAX; number++) {
-        size_t own = gauge_form_length((uint8_t)number);
-        if (is_form(number) != (own != 0)) {
-            printf("form %u: length %u\n", number, (unsigned)own);
-            failures++;
-        }
-        for (size_t length = 0; length <= GAUGE_SAVED_LENGTH + 1; length++) {
-            uint32_t answer = convert(number, length);
-            if (answer == (is_form(number) && length == own ? GAUGE_OK : GAUGE_REFUSED_SAVED))
-                continue;
-            printf("form %u in %u bytes: answered %u\n", number, (unsigned)length, (unsigned)answer);
-            failures++;
-        }
-    }
-}
-
 /* Ten bytes that all differ, so that none can stand for another. */
 static void configuration_addresses(void)
 {
@@ -311,9 +238,7 @@ int main(void)
     limits_of_lengths();
     limits_of_an_estimate();
     table_step();
-    rest_counts();
     command_numbers();
-    forms();
     configuration_addresses();
     refusal_texts();
     return failures == 0 ? 0 : 1;

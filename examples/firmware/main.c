@@ -33,14 +33,15 @@ static void show_refusals(void)
     show_refusal("reply 4, place 3", number, saved, before);
 }
 
-/* Where form 3 keeps some of its fields. Firmware needs none of this; it is here to damage them as a bad flash cell would. */
+/* Where form 4 keeps some of its fields. Firmware needs none of this; it is here to damage them as a bad flash cell would. */
 enum saved_place {
     SAVED_FORM = 0,
     SAVED_HELD_HIGHEST = 18,
     SAVED_DRAIN_LOWEST = 19,
     SAVED_SI_HIGH = 30,
     SAVED_TEMP_HIGH = 36,
-    SAVED_FLAGS = 40
+    SAVED_FLAGS = 40,
+    SAVED_CYCLE_DRAIN_HIGHEST = 52
 };
 
 static void show_damage(const char *field, enum saved_place place, uint8_t bits)
@@ -61,6 +62,7 @@ static void show_damages(void)
     show_damage("SI above its limit", SAVED_SI_HIGH, 0x02);
     show_damage("temperature of no range", SAVED_TEMP_HIGH, 0x80);
     show_damage("flag that is none", SAVED_FLAGS, 0x08);
+    show_damage("cycle drain too great", SAVED_CYCLE_DRAIN_HIGHEST, 0x01);
 }
 
 static void power_cut(void)

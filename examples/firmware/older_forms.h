@@ -53,4 +53,23 @@ static const uint8_t kept_form_2[] = {
     0x14,                                                       /* FLAGS: CI, VDQ */
 };
 
+/*
+ * Form 3: what version 3.0.0 kept of the bench pack after the calls of form 2. It counted the windows of the rest, which are enough for an estimate.
+ */
+static const uint8_t kept_form_3[43] = {
+    0x03,                                                       /* form */
+    0x04, 0x5E, 0x77, 0x05, 0x21, 0x10, 0x00, 0x00, 0x6C, 0x15, /* configuration */
+    0xB8, 0xC2, 0x70, 0x29, 0x11, 0x00, 0x00, 0x00,             /* charge, grains: NAC 545 */
+    0x48, 0x3D, 0x4E, 0x06, 0x0F, 0x00, 0x00, 0x00,             /* drain of the run, grains */
+    0x00, 0x04,                                                 /* LMD 1024 */
+    0x6A, 0x00,                                                 /* SI 106, in sixteenths */
+    0x00, 0x00,                                                 /* current 0 */
+    0x42, 0x0E,                                                 /* VOLT 3650 */
+    0x9C, 0x04,                                                 /* TEMP 1180 */
+    0xE8, 0x03,                                                 /* AR 1000 */
+    0x40,                                                       /* MODE */
+    0x14,                                                       /* FLAGS: CI, VDQ */
+    0xBF, 0x02,                                                 /* windows of rest: 703 */
+};
+
 #endif

@@ -6,6 +6,8 @@
  * steady load just above it was never shown.
  * Version 2.1.1 kept form 2, and every register goes on as it would have done.
  * Neither counted the windows of rests. The count begins with the update, and an estimate asks for a rest after it.
+ * Version 3.0.0 kept form 3, with that count: the cell had rested for an hour, and an estimate is given at once.
+ * None of the three counted cycles: CYCT begins with 0 at the update, however old the cell is.
  */
 #include "firmware.h"
 #include "older_forms.h"
@@ -35,6 +37,7 @@ static const struct version {
     const uint8_t *kept;
     size_t length;
     bool si_in_units;
+    bool counts_rests;
     struct shown shown;        /* when it kept the bytes */
     struct shown after[PARTS]; /* where it went on with the drive itself */
 } versions[] = {
@@ -56,6 +59,20 @@ static const struct version {
         .name = "2.1.1",
         .kept = kept_form_2,
         .length = sizeof kept_form_2,
+        .shown = {545, 1024, 53, 20, 545, 65535, 7, 4671},
+        .after =
+            {
+                {544, 1024, 53, 20, 544, 2720, 12, 2720},
+                {89, 1024, 8, 20, 0, 0, 12, 445},
+                {63, 1008, 6, 2, 0, 0, 12, 315},
+                {276, 1008, 27, 128, 276, 65535, 12, 1380},
+            },
+    },
+    {
+        .name = "3.0.0",
+        .kept = kept_form_3,
+        .length = sizeof kept_form_3,
+        .counts_rests = true,
         .shown = {545, 1024, 53, 20, 545, 65535, 7, 4671},
         .after =
             {
@@ -90,26 +107,32 @@ static void show_older_form(const uint8_t *flash)
     show_refusal(call, gauge_window(copy, length, -12, 3800, 1196), copy, flash);
 }
 
-static void show_host_bytes(void)
+static void show_host_bytes_and_cycles(void)
 {
     printf("%-24s 0x%02X, %u\n", "MODE and AR", (unsigned)mode(), at_rate());
+    printf("%-24s %u\n", "CYCT", cycles());
 }
 
-static uint32_t estimate(void)
+static uint32_t estimate(uint16_t *counts, int32_t *distance)
 {
-    uint16_t counts;
-    int32_t distance;
-
-    return gauge_estimate(saved, sizeof saved, 3700, &counts, &distance);
+    return gauge_estimate(saved, sizeof saved, 3700, counts, distance);
 }
 
-/* However long the cell rested before the update. */
-static void show_no_rest_counted(void)
+/* The windows of a rest before the update count where that version counted them. */
+static void show_estimate(const struct version *version)
 {
     uint8_t before[GAUGE_SAVED_LENGTH];
+    uint16_t counts = 0;
+    int32_t distance = 0;
 
     memcpy(before, saved, sizeof saved);
-    show_refusal("estimate", estimate(), saved, before);
+    uint32_t number = estimate(&counts, &distance);
+    if (!version->counts_rests) {
+        show_refusal("estimate", number, saved, before);
+        return;
+    }
+    must("gauge_estimate", number);
+    printf("%-24s %u counts, distance %ld\n", "estimate", (unsigned)counts, (long)distance);
 }
 
 /* Ends the program unless the registers are those that the older version showed. */
@@ -150,8 +173,8 @@ static void update(const struct version *version)
     must("gauge_convert", start(flash));
     show("converted");
     must_go_on_as("converted", version, &version->shown);
-    show_host_bytes();
-    show_no_rest_counted();
+    show_host_bytes_and_cycles();
+    show_estimate(version);
     for (size_t i = 0; i < PARTS; i++)
         go_on(&parts[i], version, &version->after[i]);
 }
@@ -160,11 +183,13 @@ static void update(const struct version *version)
 static void show_next_start(void)
 {
     uint8_t flash[GAUGE_SAVED_LENGTH];
+    uint16_t counts;
+    int32_t distance;
 
     must("gauge_rest", gauge_rest(saved, sizeof saved, GAUGE_ESTIMATE_REST_MIN, 1192));
     memcpy(flash, saved, sizeof saved);
     must("gauge_convert", start(flash));
-    must("gauge_estimate", estimate());
+    must("gauge_estimate", estimate(&counts, &distance));
     printf("%-24s form %u, gauge %s\n", "next start", (unsigned)flash[0],
            memcmp(saved, flash, sizeof saved) == 0 ? "unchanged" : "changed");
 }

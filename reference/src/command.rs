@@ -103,7 +103,15 @@ pub fn carry_out(gauge: &mut Gauge, command: Command) {
     gauge.mode &= !ALL_COMMAND_BITS;
 }
 
-/// PRST: as opened, but h, LMD and CI kept. So it clears the count of rest windows, as FRST does (paper 02, A4: "a reset").
+/// PRST: as opened, but h, LMD and CI kept, and the cycles with their drain (paper 02, A5). So it clears the count of rest windows, as
+/// FRST does (paper 02, A4: "a reset").
 fn partly_reset(gauge: &Gauge) -> Gauge {
-    Gauge { h: gauge.h, lmd: gauge.lmd, flags: gauge.flags & CI, ..Gauge::opened(gauge.configuration) }
+    Gauge {
+        h: gauge.h,
+        lmd: gauge.lmd,
+        flags: gauge.flags & CI,
+        cyct: gauge.cyct,
+        cycle_drain: gauge.cycle_drain,
+        ..Gauge::opened(gauge.configuration)
+    }
 }

@@ -1,17 +1,28 @@
-//! What the compensated registers show: DCMP, CAC, FCAC and the times (paper 01, "Registers").
+//! What the compensated registers show: DCMP, CAC, FCAC and the times (paper 01, "Registers"; the age: paper 02, A5).
 
+use crate::cycles::CYCLES_AN_AGE_STEP;
 use crate::gauge::Gauge;
 
 /// A time that is not known, not in this direction, or longer than its register holds.
 const NO_TIME: i64 = 65_535;
 
-/// DCMP(I), in counts: the ceiling of the quotient, at least 0.
+/// The denominator of DCMP, 32,768, times the 32 by which the age is divided: one ceiling over the joined fraction (paper 02, A5).
+const DENOMINATOR: i64 = 32 * 32_768;
+
+/// DCMP(I), in counts: the ceiling of the quotient, at least 0. Its first term ages, DCOFF does not. The greatest first term is
+/// 2,689,602,566,261,820.
 pub fn dcmp(gauge: &Gauge, i: i32) -> i64 {
     let configuration = &gauge.configuration;
     let slope = 128 + configuration.tcgn() * degrees_below(gauge);
-    let offset = 4_096 * configuration.dcoff() * i64::from(configuration.ilmd());
-    let dividend = configuration.dcgn() * (i64::from(i) * slope - offset);
-    (dividend.max(0) + 32_767) / 32_768
+    let offset = 32 * 4_096 * configuration.dcoff() * i64::from(configuration.ilmd());
+    let dividend = configuration.dcgn() * (i64::from(i) * aged(gauge) * slope - offset);
+    (dividend.max(0) + DENOMINATOR - 1) / DENOMINATOR
+}
+
+/// What DCGN is multiplied by for the cell's age, in parts of 32: 32 + TCGN × quotient × GAF, with the whole quotient of CYCT / 16.
+fn aged(gauge: &Gauge) -> i64 {
+    let quotient = i64::from(gauge.cyct / CYCLES_AN_AGE_STEP);
+    32 + gauge.configuration.tcgn() * quotient * gauge.configuration.gaf()
 }
 
 /// dt, in quarter kelvins: how far TEMP is below 4 × (273 + TOFF); 0 if TEMP is not measured yet.

@@ -98,6 +98,11 @@ impl Configuration {
         4 * (273 + i32::from(self.bytes[9] & 0x07))
     }
 
+    /// GAF, the two low bits of ID3: how fast the compensation ages (paper 02, A5).
+    pub fn gaf(&self) -> i64 {
+        i64::from(self.bytes[7] & 0x03)
+    }
+
     /// MODE as opened: bit 7 from PKCFG bit 7, bits 6 and 2 (INIT) set.
     pub fn opened_mode(&self) -> u8 {
         (self.pkcfg() & 0x80) | 0x44

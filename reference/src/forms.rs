@@ -1,14 +1,16 @@
-//! The forms of the saved bytes as they are read (paper 01, "Saved gauge"; paper 02, A1 and A4).
+//! The forms of the saved bytes as they are read (paper 01, "Saved gauge"; paper 02, A1, A4 and A5).
 //!
 //! Each form reads its fields, holds them to its own conditions and carries them over to the gauge. A new form is one more function
 //! and one more row of `held`; the older ones keep their text.
 //!
 //! Every form begins with the 41 bytes of paper 01: form at 0; configuration at 1; h at 11 and DCR at 19, 8 bytes each; LMD at 27, SI
 //! at 29, c at 31, VOLT at 33, TEMP at 35 and AR at 37, 2 bytes each; MODE at 39; FLAGS at 40. Form 3 goes on with the count of rest
-//! windows, 2 bytes at 41. Numbers stand low byte first.
+//! windows, 2 bytes at 41, and form 4 then with CYCT, 2 bytes at 43, and the cycle drain, 8 bytes at 45. Numbers stand low byte
+//! first.
 
 use crate::acceptance;
 use crate::configuration::Configuration;
+use crate::cycles::CYCLE_DRAIN_LIMIT;
 use crate::gauge::{Gauge, SIXTEENTHS};
 use crate::refusal;
 
@@ -26,6 +28,7 @@ fn held(saved: &[u8]) -> Option<Gauge> {
         1 => form_1(saved.try_into().ok()?),
         2 => form_2(saved.try_into().ok()?),
         3 => form_3(saved.try_into().ok()?),
+        4 => form_4(saved.try_into().ok()?),
         _ => None,
     }
 }
@@ -45,11 +48,20 @@ fn form_2(saved: &First) -> Option<Gauge> {
     (sixteenths <= SIXTEENTHS * gauge.configuration.standby_limit()).then_some(gauge)
 }
 
-/// As form 2, and then the count of rest windows, which may be any number that two bytes hold (paper 02, A4).
+/// As form 2, and then the count of rest windows, which may be any number that two bytes hold (paper 02, A4). Always inlined too.
+#[inline(always)]
 fn form_3(saved: &[u8; 43]) -> Option<Gauge> {
     let mut gauge = form_2(saved[..41].try_into().ok()?)?;
     gauge.rest_count = pair(saved, 41);
     Some(gauge)
+}
+
+/// As form 3, and then CYCT, which may be any number that two bytes hold, and the cycle drain, below 65,535 × G (paper 02, A5).
+fn form_4(saved: &[u8; 53]) -> Option<Gauge> {
+    let mut gauge = form_3(saved[..43].try_into().ok()?)?;
+    gauge.cyct = pair(saved, 43);
+    gauge.cycle_drain = grains(saved, 45);
+    (0..CYCLE_DRAIN_LIMIT).contains(&gauge.cycle_drain).then_some(gauge)
 }
 
 /// The two bytes of SI, whose unit is the form's own.
@@ -75,6 +87,8 @@ fn first(saved: &First, si_sixteenths: i32) -> Option<Gauge> {
         mode: saved[39],
         flags: saved[40],
         rest_count: 0,
+        cyct: 0,
+        cycle_drain: 0,
     };
     acceptance::accepted(&gauge).then_some(gauge)
 }
@@ -83,8 +97,8 @@ fn pair(saved: &[u8], at: usize) -> i32 {
     i32::from(u16::from_le_bytes([saved[at], saved[at + 1]]))
 }
 
-/// Eight bytes as a signed number: what would be 2^63 or more as a charge comes out below 0 and is refused for that.
-fn grains(saved: &First, at: usize) -> i64 {
+/// Eight bytes as a signed number: what would be 2^63 or more as a charge or drain comes out below 0 and is refused for that.
+fn grains(saved: &[u8], at: usize) -> i64 {
     let mut bytes = [0; 8];
     bytes.copy_from_slice(&saved[at..at + 8]);
     i64::from_le_bytes(bytes)

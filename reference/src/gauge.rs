@@ -39,6 +39,9 @@ pub struct Gauge {
     pub flags: u8,
     /// Rest windows since the last window with c not 0, since opening or a reset (paper 02, A4).
     pub rest_count: i32,
+    /// Cycles, and what was discharged beyond them, in grains (paper 02, A5). The opened gauge has neither.
+    pub cyct: i32,
+    pub cycle_drain: i64,
 }
 
 impl Gauge {
@@ -56,6 +59,8 @@ impl Gauge {
             mode: configuration.opened_mode(),
             flags: CI,
             rest_count: 0,
+            cyct: 0,
+            cycle_drain: 0,
         }
     }
 

@@ -1,4 +1,4 @@
-//! The history of demand 3 (paper 01, "Fixing points of demand 3"), and the count of rest windows (paper 02, A4).
+//! The history of demand 3 (paper 01, "Fixing points of demand 3"), the count of rest windows and the cycles (paper 02, A4 and A5).
 //!
 //! It is fed the opened configuration and the calls' arguments and takes nothing from the gauge. It shares with the gauge only the
 //! rules that are about numbers alone: leak, full test, what a run teaches, which command a key picks, which refusal arguments give.
@@ -6,6 +6,7 @@
 
 use crate::command::{self, Command};
 use crate::configuration::Configuration;
+use crate::cycles::CYCLES_MAX;
 use crate::fixing::{FixingPoint, FixingPoints};
 use crate::gauge::{Gauge, REST_COUNT_MAX};
 use crate::leak::{self, GRAINS_PER_COUNT, GRAINS_PER_UNIT, GREATEST_DRAIN};
@@ -43,6 +44,9 @@ pub struct History {
     pub ar: i32,
     /// Rest windows since the last window with c not 0, since opening or a reset, at most 65,535 (paper 02, A4).
     pub rest_count: i32,
+    /// Cycles, at most 65,535, and the discharge in grains that no cycle has taken yet (paper 02, A5).
+    pub cycles: i32,
+    pub cycle_drain: i64,
 }
 
 impl History {
@@ -58,6 +62,8 @@ impl History {
             mode: configuration.opened_mode(),
             ar: 0,
             rest_count: 0,
+            cycles: 0,
+            cycle_drain: 0,
         }
     }
 
@@ -75,6 +81,8 @@ impl History {
             mode: gauge.mode,
             ar: gauge.ar,
             rest_count: gauge.rest_count,
+            cycles: gauge.cyct,
+            cycle_drain: gauge.cycle_drain,
         }
     }
 
@@ -128,6 +136,7 @@ impl History {
         let leak = leak::leak(self.h(), self.configuration.sd(), leak::w(t));
         self.k += i128::from(leak);
         self.q += i128::from(c);
+        self.count_cycles(c);
         if c != 0 {
             self.rest_count = 0;
         }
@@ -140,6 +149,18 @@ impl History {
         self.full_or_empty_stop(c, v, &mut points);
         self.end_of_discharge(c, v, t, &mut points);
         points
+    }
+
+    /// A window's discharge, and a cycle for each L × G that can be taken from what has come together, L being that before the window.
+    /// A cycle that CYCT has no room for is taken like the others (paper 02, A5).
+    fn count_cycles(&mut self, c: i32) {
+        if c < 0 {
+            self.cycle_drain += GRAINS_PER_UNIT * i64::from(-c);
+        }
+        while self.cycle_drain >= self.full_charge() {
+            self.cycle_drain -= self.full_charge();
+            self.cycles = (self.cycles + 1).min(CYCLES_MAX);
+        }
     }
 
     /// A run's R gains a drain, and the run ends if R is above 65,535 × G.

@@ -16,6 +16,7 @@ pub mod calls;
 pub mod command;
 pub mod compensation;
 pub mod configuration;
+pub mod cycles;
 pub mod estimate;
 pub mod fixing;
 pub mod forms;

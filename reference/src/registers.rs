@@ -1,4 +1,4 @@
-//! The map of the 128 registers (paper 01, "Registers").
+//! The map of the 128 registers (paper 01, "Registers"; CYCT: paper 02, A5).
 
 use crate::compensation::{artte, cac, fcac, rsoc, stte, tte, ttf};
 use crate::configuration;
@@ -7,7 +7,7 @@ use crate::gauge::Gauge;
 const CONFIGURATION_START: usize = 0x76;
 
 /// The end of the registers that are worked out; from here to 0x75 all bytes are 0.
-const SHOWN_END: usize = 0x22;
+const SHOWN_END: usize = 0x2C;
 
 /// A register: its first address, its number of bytes and its value.
 type Register = (usize, usize, i64);
@@ -45,7 +45,7 @@ pub fn all(gauge: &Gauge) -> [u8; CONFIGURATION_START + configuration::LENGTH] {
     registers
 }
 
-/// The register that holds an address below 0x22. Kept a call of its own: inlined into the loop of `copy`, the compiler works out
+/// The register that holds an address below 0x2C. Kept a call of its own: inlined into the loop of `copy`, the compiler works out
 /// parts of all registers ahead of it, and a short read pays for registers that it does not touch.
 #[inline(never)]
 fn register(gauge: &Gauge, address: usize) -> Register {
@@ -67,7 +67,8 @@ fn register(gauge: &Gauge, address: usize) -> Register {
         0x1A | 0x1B => (0x1A, 2, i64::from(gauge.si())),
         0x1C | 0x1D => (0x1C, 2, stte(gauge)),
         0x20 | 0x21 => (0x20, 2, i64::from(gauge.configuration.e1())),
-        // CTRL, which always reads 0, and the bytes 0x1E and 0x1F.
+        0x2A | 0x2B => (0x2A, 2, i64::from(gauge.cyct)),
+        // CTRL, which always reads 0, and the bytes 0x1E, 0x1F and 0x22 to 0x29.
         _ => (address, 1, 0),
     }
 }

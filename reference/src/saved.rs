@@ -1,11 +1,12 @@
-//! The newest form of the saved bytes: what saving writes, and the only form that the calls take, converting aside (paper 02, A1 and A4).
+//! The newest form of the saved bytes: what saving writes, and the only form that the calls take, converting aside (paper 02, A1, A4
+//! and A5).
 
 use crate::forms;
 use crate::gauge::Gauge;
 use crate::refusal;
 
-pub const FORM: u8 = 3;
-pub const LENGTH: usize = 43;
+pub const FORM: u8 = 4;
+pub const LENGTH: usize = 53;
 
 /// The gauge that bytes of the newest form hold, or 14. An older form is 14 here; `forms::load` reads it.
 pub fn load(saved: &[u8]) -> Result<Gauge, u32> {
@@ -28,4 +29,6 @@ pub fn store(gauge: &Gauge, saved: &mut [u8; LENGTH]) {
     saved[39] = gauge.mode;
     saved[40] = gauge.flags;
     saved[41..43].copy_from_slice(&(gauge.rest_count as u16).to_le_bytes());
+    saved[43..45].copy_from_slice(&(gauge.cyct as u16).to_le_bytes());
+    saved[45..53].copy_from_slice(&gauge.cycle_drain.to_le_bytes());
 }

@@ -1,5 +1,7 @@
-//! The five steps of a window (paper 01, "A window"), and what it does to the count of rest windows (paper 02, A4).
+//! The five steps of a window (paper 01, "A window"), and what it does to the count of rest windows and to the cycles (paper 02, A4
+//! and A5).
 
+use crate::cycles;
 use crate::gauge::{Gauge, CHGS, CI, EDV1, EDVF, VDQ};
 use crate::leak::{self, GRAINS_PER_UNIT};
 use crate::learning;
@@ -17,6 +19,7 @@ pub fn window(gauge: &mut Gauge, a: i32, v: i32, t: i32) {
     gauge.c = gauge.configuration.counted(a);
     gauge.volt = v;
     gauge.temp = t;
+    cycles::count(gauge);
     step_1(gauge);
     step_2(gauge);
     step_3(gauge);

@@ -21,6 +21,8 @@ fn used(mode: u8, ar: i32) -> Saved {
             mode,
             flags: CHGS | VDQ | EDV1 | EDVF,
             rest_count: 421,
+            cyct: 16,
+            cycle_drain: 899 * G,
             ..*gauge
         }
     })
@@ -90,9 +92,9 @@ fn frst_is_as_opened() {
 }
 
 #[test]
-fn prst_keeps_charge_capacity_and_ci() {
+fn prst_keeps_charge_capacity_ci_and_cycles() {
     let fresh = gauge(&opened());
-    let expected = Gauge { h: 500 * G + 77, lmd: 900, flags: 0, ..fresh };
+    let expected = Gauge { h: 500 * G + 77, lmd: 900, flags: 0, cyct: 16, cycle_drain: 899 * G, ..fresh };
     assert_eq!(keyed(0x0F, 5, 0xA9), expected);
     let mut inaccurate = with(|gauge| {
         gauge.flags = CI | EDV1;
@@ -107,7 +109,7 @@ fn opening_takes_bit_7_of_pkcfg() {
     let mut pack = reference::bench::BENCH_PACK;
     for (pkcfg, mode) in [(0x80, 0xC4), (0x7F, 0x44), (0xFF, 0xC4)] {
         pack[6] = pkcfg;
-        let mut bytes = [0; 43];
+        let mut bytes = [0; 53];
         assert_eq!(open(&pack, &mut bytes), 0);
         assert_eq!(gauge(&bytes).mode, mode);
     }

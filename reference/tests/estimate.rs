@@ -131,7 +131,7 @@ fn number_14_comes_first_then_15() {
     }
     for (rest_count, voltage) in [(422, 3_700), (0, 3_700), (422, 2_999), (0, 4_201)] {
         refuses(&cell(rest_count, 0, 0), voltage, 14);
-        refuses(&cell(rest_count, 1000, 0)[..42], voltage, 14);
+        refuses(&cell(rest_count, 1000, 0)[..52], voltage, 14);
     }
 }
 

@@ -22,6 +22,7 @@ impl Held {
         assert_eq!((gauge.h, gauge.lmd, gauge.dcr), (history.h(), history.l, history.r()));
         assert_eq!((gauge.vdq(), gauge.ar), (history.run.is_some(), history.ar));
         assert_eq!(gauge.rest_count, history.rest_count);
+        assert_eq!((gauge.cyct, gauge.cycle_drain), (history.cycles, history.cycle_drain));
         assert_eq!(gauge.mode & 0x3B, history.mode & 0x3B);
     }
 
@@ -170,6 +171,52 @@ fn the_history_counts_rest_windows_by_the_calls_alone() {
 }
 
 #[test]
+fn the_history_counts_cycles_by_the_calls_alone() {
+    // Paper 02, A5. Twenty windows of 28,011 units are 796 counts and 102,240,000 grains.
+    let mut held = Held::open(&BENCH_PACK);
+    held.command(0, 0x10, 0xA9);
+    for _ in 0..20 {
+        held.window(-28_011, 3600, 1192);
+    }
+    let counted = |held: &Held| (held.0.history().cycles, held.0.history().cycle_drain);
+    assert_eq!(counted(&held), (0, 796 * G + 102_240_000));
+    held.command(100, 0x01, 0x56);
+    held.rest(5, 1192);
+    assert_eq!(counted(&held), (0, 796 * G + 102_240_000));
+    held.window(0, 3600, 1192);
+    assert_eq!(counted(&held), (7, 96 * G + 102_240_000));
+    held.command(9, 0x08, 0xA9);
+    assert_eq!(counted(&held), (7, 96 * G + 102_240_000));
+    held.command(9, 0x02, 0xA9);
+    assert_eq!(counted(&held), (0, 0));
+}
+
+#[test]
+fn the_history_stops_at_65535_cycles() {
+    let mut held = Held::open(&BENCH_PACK);
+    held.command(1, 0x01, 0x56);
+    for _ in 0..1_700 {
+        held.window(-28_011, 3600, 1192);
+    }
+    let drain = 1_700 * 28_011 * 192_000 % G;
+    assert_eq!((held.0.history().cycles, held.0.history().cycle_drain), (65_535, drain));
+}
+
+#[test]
+fn cycles_in_the_window_that_teaches() {
+    // From full, 25 windows come to 995 counts, which is no cycle of 1,024 yet.
+    let mut held = Held::open(&BENCH_PACK);
+    held.command(0, 0x10, 0xA9);
+    for _ in 0..25 {
+        held.window(-28_011, 3600, 1192);
+    }
+    assert_eq!((held.0.history().l, held.0.history().cycles), (1024, 0));
+    // The last one comes to 1,035: a cycle of 1,024, and none of the 1,104 that the run teaches.
+    assert_eq!(held.window(-28_011, 3000, 1192), [EmptyStop, QualifiedRun]);
+    assert_eq!((held.0.history().l, held.0.history().cycles), (1104, 1));
+}
+
+#[test]
 fn a_run_ends_above_the_greatest_drain() {
     let mut held = Held::open(&BENCH_PACK);
     held.command(1, 0x01, 0x56);
@@ -206,11 +253,12 @@ fn a_history_begins_at_a_loaded_gauge() {
     let begun = *loaded.0.history();
     assert_eq!((begun.p, begun.q, begun.k), (held.0.history().h(), 0, 0));
     assert_eq!((begun.l, begun.run, begun.ar, begun.rest_count), (1024, held.0.history().run, 9, 5));
+    assert_eq!((begun.cycles, begun.cycle_drain), (0, 3000 * 192_000));
 
     // The run that was under way goes on and teaches the same capacity.
     for both in [&mut held, &mut loaded] {
         assert_eq!(both.window(-21, 3000, 1192), [QualifiedRun]);
     }
     assert_eq!(held.0.saved(), loaded.0.saved());
-    assert_eq!(Trace::load(&[0; 43]).err(), Some(14));
+    assert_eq!(Trace::load(&[0; 53]).err(), Some(14));
 }

@@ -24,6 +24,8 @@ fn host(mode: u8, ar: i32) -> Saved {
             mode,
             flags: CHGS | VDQ | EDV1 | EDVF,
             rest_count: 421,
+            cyct: 16,
+            cycle_drain: 899 * G,
             ..*gauge
         }
     })
@@ -79,6 +81,14 @@ fn the_registers_are_those_after_the_command() {
         let (_, shown) = accepted(&host(mode, ar), key);
         assert_eq!((pair_of(&shown, 0x0C), pair_of(&shown, 0x0E), shown[0x0B]), (nac, lmd, rsoc));
         assert_eq!((shown[0x0A], pair_of(&shown, 0x02)), (flags, shown_ar));
+    }
+}
+
+#[test]
+fn cycles_are_shown_as_the_reset_leaves_them() {
+    // Paper 02, A5: FRST clears them, PRST and the settings keep them.
+    for (mode, key, cycles) in [(0x20, 0xA9, 16), (0x10, 0xA9, 16), (0x08, 0xA9, 16), (0x02, 0xA9, 0), (0x01, 0x56, 16)] {
+        assert_eq!(pair_of(&accepted(&host(mode, 9), key).1, 0x2A), cycles);
     }
 }
 
@@ -143,8 +153,9 @@ fn number_13_comes_last_and_14_first() {
     }
     for (key, length) in [(0xA9, 128), (0x57, 128), (0xA9, 127), (0x57, 129)] {
         refuses(&damaged, key, length, 14);
-        refuses(&host(0x20, 9)[..42], key, length, 14);
-        refuses(&as_form_1(&opened()), key, length, 14);
-        refuses(&as_form_2(&opened()), key, length, 14);
+        refuses(&host(0x20, 9)[..52], key, length, 14);
+        for old in as_older_forms(&opened()) {
+            refuses(&old, key, length, 14);
+        }
     }
 }

@@ -26,10 +26,10 @@ fn numbers_1_and_2_then_13_of_opening() {
     refuses(opened(), 1, |saved| open(&BENCH_PACK[..9], saved));
     refuses(opened(), 1, |saved| open(&[1; 11], saved));
     refuses(opened(), 2, |saved| open(&empty, saved));
-    refuses(opened(), 1, |saved| open(&empty[..9], &mut saved[..42]));
-    refuses(opened(), 2, |saved| open(&empty, &mut saved[..42]));
-    refuses(opened(), 13, |saved| open(&BENCH_PACK, &mut saved[..42]));
-    assert_eq!(open(&BENCH_PACK, &mut [0; 44]), 13);
+    refuses(opened(), 1, |saved| open(&empty[..9], &mut saved[..52]));
+    refuses(opened(), 2, |saved| open(&empty, &mut saved[..52]));
+    refuses(opened(), 13, |saved| open(&BENCH_PACK, &mut saved[..52]));
+    assert_eq!(open(&BENCH_PACK, &mut [0; 54]), 13);
 }
 
 #[test]
@@ -102,7 +102,7 @@ fn number_14_comes_first() {
     refuses(damaged, 14, |saved| write(saved, 0x04, 0));
     refuses(damaged, 14, |saved| read(saved, 0, 0, &mut [], 0));
     refuses(damaged, 14, |saved| estimate(saved, 0, &mut 0, &mut 0));
-    refuses(opened(), 14, |saved| window(&mut saved[..42], 0, 3700, 1192));
+    refuses(opened(), 14, |saved| window(&mut saved[..52], 0, 3700, 1192));
 }
 
 #[test]

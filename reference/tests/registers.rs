@@ -5,7 +5,7 @@ use common::*;
 use reference::bench::BENCH_PACK;
 use reference::calls;
 use reference::compensation::dcmp;
-use reference::gauge::{CHGS, CI};
+use reference::gauge::{Gauge, CHGS, CI};
 use reference::registers;
 
 #[test]
@@ -38,8 +38,21 @@ fn the_map_after_line_three() {
 }
 
 #[test]
+fn cyct_stands_at_0x2a() {
+    // Paper 02, A5. The drain is shown nowhere.
+    let shown = |cyct, cycle_drain| registers::all(&gauge(&with(|gauge| *gauge = Gauge { cyct, cycle_drain, ..*gauge })));
+    let cycles = shown(0xABCD, 0);
+    assert_eq!((cycles[0x2A], cycles[0x2B]), (0xCD, 0xAB));
+    assert!(cycles[0x22..0x2A].iter().chain(&cycles[0x2C..0x76]).all(|&byte| byte == 0));
+    assert_eq!(shown(0xABCD, 65_535 * G - 1), cycles);
+    // At rest and with AR 0 they move no other register.
+    assert_eq!((&cycles[..0x2A], &cycles[0x2C..]), (&shown(0, 0)[..0x2A], &shown(0, 0)[0x2C..]));
+}
+
+#[test]
 fn every_part_is_a_part_of_the_whole() {
-    let bytes = line_three();
+    let mut bytes = line_three();
+    bytes[43..45].copy_from_slice(&[0xCD, 0xAB]);
     let shown = registers::all(&gauge(&bytes));
     for address in 0..128usize {
         for count in 1..=128 - address {

@@ -24,17 +24,20 @@ fn every_field_stands_in_its_place() {
             mode: 0x5A,
             flags: VDQ,
             rest_count: 0xA987,
+            cyct: 0xFEDB,
+            cycle_drain: 0x7_6543_210F,
             ..*gauge
         }
     });
     #[rustfmt::skip]
     let expected = [
-        3, 0x04, 0x5E, 0x77, 0x05, 0x21, 0x10, 0x00, 0x00, 0x6C, 0x15,
+        4, 0x04, 0x5E, 0x77, 0x05, 0x21, 0x10, 0x00, 0x00, 0x6C, 0x15,
         0x9A, 0x78, 0x56, 0x34, 0x12, 0, 0, 0, 0x65, 0x87, 0x09, 0x21, 0x03, 0, 0, 0,
         0xDC, 0xFE, 0x23, 0x01, 0xCC, 0xED, 0xBC, 0x0A, 0xD2, 0x04, 0xEF, 0xBE, 0x5A, 0x04, 0x87, 0xA9,
+        0xDB, 0xFE, 0x0F, 0x21, 0x43, 0x65, 0x07, 0, 0, 0,
     ];
     assert_eq!(bytes, expected);
-    let mut again = [0xEE; 43];
+    let mut again = [0xEE; 53];
     store(&gauge(&bytes), &mut again);
     assert_eq!(again, bytes);
 }
@@ -42,8 +45,8 @@ fn every_field_stands_in_its_place() {
 #[test]
 fn length_form_and_ilmd() {
     let bytes = opened();
-    assert!((0..=64).all(|length| load(&[bytes.as_slice(), &[0; 23]].concat()[..length]).is_ok() == (length == 43)));
-    for form in [0, 1, 2, 4, 255] {
+    assert!((0..=64).all(|length| load(&[bytes.as_slice(), &[0; 13]].concat()[..length]).is_ok() == (length == 53)));
+    for form in [0, 1, 2, 3, 5, 255] {
         let mut other = bytes;
         other[0] = form;
         assert_eq!(load(&other), Err(14));
@@ -120,6 +123,30 @@ fn flag_bits_without_a_name_are_0() {
 fn every_count_of_rest_windows_is_accepted() {
     for rest_count in 0..=65_535 {
         assert_eq!(gauge(&with(|gauge| gauge.rest_count = rest_count)).rest_count, rest_count);
+    }
+}
+
+#[test]
+fn every_cyct_is_accepted() {
+    for cyct in 0..=65_535 {
+        assert_eq!(gauge(&with(|gauge| gauge.cyct = cyct)).cyct, cyct);
+    }
+}
+
+#[test]
+fn the_cycle_drain_is_below_65535_counts() {
+    // It need not be below LMD × G, which is 1,024 counts here.
+    for cycle_drain in [0, 1, 1024 * G - 1, 1024 * G, 1024 * G + 1, GREATEST_DRAIN - 1] {
+        assert_eq!(gauge(&with(|gauge| gauge.cycle_drain = cycle_drain)).cycle_drain, cycle_drain);
+    }
+    for cycle_drain in [GREATEST_DRAIN, GREATEST_DRAIN + 1, 1 << 56, i64::MAX, i64::MIN, -1] {
+        assert!(!accepted(|gauge| gauge.cycle_drain = cycle_drain), "{cycle_drain}");
+    }
+    // The limit is that of the form, not of LMD or CYCT.
+    for (lmd, cyct) in [(1, 0), (65_535, 65_535)] {
+        for (cycle_drain, ok) in [(GREATEST_DRAIN - 1, true), (GREATEST_DRAIN, false)] {
+            assert_eq!(accepted(|gauge| *gauge = Gauge { lmd, cyct, cycle_drain, ..*gauge }), ok);
+        }
     }
 }
 

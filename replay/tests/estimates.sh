@@ -93,11 +93,11 @@ list order.txt 'open bench\nestimate 2999\nestimate 4201\nrest 422 1192\nestimat
 run order.txt
 expect "numbers of estimates" "15 15 16 0 0 16 16 16" "$(rows | awk '$9 == "estimate" { printf "%s%s", (n++ ? " " : ""), $2 }')"
 
-# count_bytes LINE ..: the count in the saved bytes after these lines: the last two of form 3.
+# count_bytes LINE ..: the count in the saved bytes after these lines: those at 41 and 42.
 count_bytes() {
     { printf 'open bench\n'; printf '%s\n' "$@"; } >count.txt
     run --save count.saved count.txt
-    sed 's/.*\( .. ..\)$/\1/' count.saved
+    awk '{ print " " $43 " " $44 }' count.saved
 }
 
 # It stops at 65535, which four days would pass: 3 * 16875 + 14909 = 65534.

@@ -13,7 +13,7 @@ expect "help" "$usage 0" "$(cat printed) $status$(cat messages)"
 expect "bad usage saves nothing" "" "$(ls ./*one.saved ./*two.saved 2>/dev/null)"
 
 run right.txt --all
-expect "an option may follow the lists" "CEDV 0" "$(sed -n '1s/ call$//; 1s/.* //p' printed) $status"
+expect "an option may follow the lists" "CYCT 0" "$(sed -n '1s/ call$//; 1s/.* //p' printed) $status"
 
 run absent.txt
 expect "no such list" "replay: absent.txt: cannot be read: No such file or directory

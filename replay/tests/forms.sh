@@ -1,10 +1,10 @@
 # shellcheck shell=bash disable=SC2154 # what check sets
 # load takes bytes of every form; --save writes the newest. Form 1 has SI in whole units, at most 2 * S0; form 2, of request A1, in sixteenths,
 # at most 32 * S0, in the same two bytes. The rest of their 41 bytes is the same. Form 3, of request A4, is form 2 and the count of rest windows, two
-# bytes; the older ones have none, and it is 0.
+# bytes; form 4, of request A5, is form 3 and CYCT, two bytes, and the cycle drain, eight. What an older one lacks is 0.
 
-# gauge_of_form FORM SI [ISLC [COUNT]]: a load line. The bench pack with 512 counts, 3700 mV and 1192 measured, no run, no current; S0 is 2 * ISLC, 10
-# without one. COUNT, of form 3, is 0 without one.
+# gauge_of_form FORM SI [ISLC [COUNT [CYCT [DRAIN]]]]: a load line. The bench pack with 512 counts, 3700 mV and 1192 measured, no run, no current; S0 is
+# 2 * ISLC, 10 without one. COUNT, of form 3 on, CYCT and DRAIN, of form 4, are 0 without one.
 gauge_of_form() {
     local pair
     printf 'load%s 04 5E 77%s 21 10 00 00 6C 15' "$(number_bytes "$1" 1)" "$(number_bytes "${3:-5}" 1)"
@@ -13,6 +13,7 @@ gauge_of_form() {
     for pair in 1024 "$2" 0 3700 1192 0; do number_bytes "$pair" 2; done
     printf ' 44 10'
     [ "$1" -lt 3 ] || number_bytes "${4:-0}" 2
+    [ "$1" -lt 4 ] || { number_bytes "${5:-0}" 2; number_bytes "${6:-0}" 8; }
     echo
 }
 
@@ -32,31 +33,34 @@ refused_form() {
     expect "$1" "0 14"$'\n'"$opened" "$(rows | awk '{ printf "%s%s", (NR > 1 ? " " : ""), $2 }')"$'\n'"$(cat form.saved)"
 }
 
-# Form 1 is multiplied by 16: 7 is 112 sixteenths. Every register is that of form 3; SI shows ceil(112 / 16) = 7, STTE floor(60 * 512 / 7) = 4388.
-saved_as "form 1 is saved as form 3" "$(gauge_of_form 1 7)" "$(gauge_of_form 3 112)"
+# Form 1 is multiplied by 16: 7 is 112 sixteenths. Every register is that of form 4; SI shows ceil(112 / 16) = 7, STTE floor(60 * 512 / 7) = 4388.
+saved_as "form 1 is saved as form 4" "$(gauge_of_form 1 7)" "$(gauge_of_form 4 112)"
 of_form_1=$(registers)
 expect "form 1: SI and STTE" "7 4388" "$(registers | awk '{ print $15, $16 }')"
-saved_as "form 2 is saved as form 3" "$(gauge_of_form 2 112)" "$(gauge_of_form 3 112)"
+saved_as "form 2 is saved as form 4" "$(gauge_of_form 2 112)" "$(gauge_of_form 4 112)"
 of_form_2=$(registers)
-saved_as "form 3 is saved as it is" "$(gauge_of_form 3 112)" "$(gauge_of_form 3 112)"
-expect "form 1: the registers of form 3" "$(registers)" "$of_form_1"
-expect "form 2: the registers of form 3" "$(registers)" "$of_form_2"
+saved_as "form 3 is saved as form 4" "$(gauge_of_form 3 112)" "$(gauge_of_form 4 112)"
+of_form_3=$(registers)
+saved_as "form 4 is saved as it is" "$(gauge_of_form 4 112)" "$(gauge_of_form 4 112)"
+expect "form 1: the registers of form 4" "$(registers)" "$of_form_1"
+expect "form 2: the registers of form 4" "$(registers)" "$of_form_2"
+expect "form 3: the registers of form 4" "$(registers)" "$of_form_3"
 
 # No form 1 has 113 sixteenths: ceil(113 / 16) = 8, STTE 60 * 512 / 8 = 3840.
-for form in 2 3; do
-    saved_as "form $form between two units" "$(gauge_of_form "$form" 113)" "$(gauge_of_form 3 113)"
+for form in 2 3 4; do
+    saved_as "form $form between two units" "$(gauge_of_form "$form" 113)" "$(gauge_of_form 4 113)"
     expect "form $form between two units: SI and STTE" "8 3840" "$(registers | awk '{ print $15, $16 }')"
 done
 
 # Each form by its own limit: S0 is 10, and 0 and 510 are the least and the greatest.
-saved_as "form 1, SI 2 * S0" "$(gauge_of_form 1 20)" "$(gauge_of_form 3 320)"
+saved_as "form 1, SI 2 * S0" "$(gauge_of_form 1 20)" "$(gauge_of_form 4 320)"
 refused_form "form 1, SI above 2 * S0" "$(gauge_of_form 1 21)"
-saved_as "form 1, S0 0" "$(gauge_of_form 1 0 0)" "$(gauge_of_form 3 0 0)"
+saved_as "form 1, S0 0" "$(gauge_of_form 1 0 0)" "$(gauge_of_form 4 0 0)"
 refused_form "form 1, S0 0, SI above it" "$(gauge_of_form 1 1 0)"
-saved_as "form 1, SI twice the greatest S0" "$(gauge_of_form 1 1020 255)" "$(gauge_of_form 3 16320 255)"
+saved_as "form 1, SI twice the greatest S0" "$(gauge_of_form 1 1020 255)" "$(gauge_of_form 4 16320 255)"
 refused_form "form 1, SI above that" "$(gauge_of_form 1 1021 255)"
-for form in 2 3; do
-    saved_as "form $form, SI 32 * S0" "$(gauge_of_form "$form" 320)" "$(gauge_of_form 3 320)"
+for form in 2 3 4; do
+    saved_as "form $form, SI 32 * S0" "$(gauge_of_form "$form" 320)" "$(gauge_of_form 4 320)"
     refused_form "form $form, SI above 32 * S0" "$(gauge_of_form "$form" 321)"
 done
 
@@ -66,8 +70,10 @@ refused_form "form 1, SI 4116" "$(gauge_of_form 1 4116)"
 refused_form "form 1, SI 65535" "$(gauge_of_form 1 65535)"
 
 # Every count that two bytes hold is one, and an estimate goes by it.
-for count in 0 1 421 422 65535; do
-    saved_as "form 3, $count rest windows" "$(gauge_of_form 3 160 5 "$count")" "$(gauge_of_form 3 160 5 "$count")"
+for form in 3 4; do
+    for count in 0 1 421 422 65535; do
+        saved_as "form $form, $count rest windows" "$(gauge_of_form "$form" 160 5 "$count")" "$(gauge_of_form 4 160 5 "$count")"
+    done
 done
 # estimate_on LINE: the number of an estimate on the gauge that the line loads.
 estimate_on() {
@@ -75,24 +81,60 @@ estimate_on() {
     run form.txt
     rows | tail -n 1 | awk '{ print $2 }'
 }
-expect "form 3, 421 rest windows: no estimate" 15 "$(estimate_on "$(gauge_of_form 3 160 5 421)")"
-expect "form 3, 422 rest windows: an estimate" 0 "$(estimate_on "$(gauge_of_form 3 160 5 422)")"
-expect "form 3, 65535 rest windows: an estimate" 0 "$(estimate_on "$(gauge_of_form 3 160 5 65535)")"
+for form in 3 4; do
+    expect "form $form, 421 rest windows: no estimate" 15 "$(estimate_on "$(gauge_of_form "$form" 160 5 421)")"
+    expect "form $form, 422 rest windows: an estimate" 0 "$(estimate_on "$(gauge_of_form "$form" 160 5 422)")"
+    expect "form $form, 65535 rest windows: an estimate" 0 "$(estimate_on "$(gauge_of_form "$form" 160 5 65535)")"
+done
 expect "form 2: no rest window is counted" 15 "$(estimate_on "$(gauge_of_form 2 160)")"
 expect "form 1: no rest window is counted" 15 "$(estimate_on "$(gauge_of_form 1 10)")"
 
-# The first byte tells the form, which has its own length: 41 bytes the first two, 43 the third.
-for form in 0 4 255; do
-    refused_form "form $form, which is none, in 41 bytes" "$(gauge_of_form 2 160 | sed "s/load 02/load$(number_bytes "$form" 1)/")"
-    refused_form "form $form, which is none, in 43 bytes" "$(gauge_of_form 3 160 | sed "s/load 03/load$(number_bytes "$form" 1)/")"
+# cycles_on LINE: CYCT of the gauge that the line loads, and after a window whose discharge is a count and more.
+cycles_on() {
+    printf '%s\n-800 3600 1192\n' "$1" >form.txt
+    run --all form.txt
+    registers | awk '{ printf "%s%s", (NR > 1 ? " " : ""), $18 }'
+}
+
+# Every CYCT that two bytes hold is one. The drain is below 65,535 counts, whatever LMD is: 1024 counts of it are a cycle with the next window.
+counts_65535=$((65535 * 135000000))
+for count in 0 1 65535; do
+    saved_as "form 4, CYCT $count" "$(gauge_of_form 4 160 5 0 "$count")" "$(gauge_of_form 4 160 5 0 "$count")"
+    expect "form 4, CYCT $count: it is shown" "$count $count" "$(cycles_on "$(gauge_of_form 4 160 5 0 "$count")")"
+done
+for drain in 1 $((1023 * 135000000)) $((1024 * 135000000)) $((counts_65535 - 1)); do
+    saved_as "form 4, a drain of $drain grains" "$(gauge_of_form 4 160 5 0 9 "$drain")" "$(gauge_of_form 4 160 5 0 9 "$drain")"
+done
+expect "form 4: a drain of 1022 counts" "9 9" "$(cycles_on "$(gauge_of_form 4 160 5 0 9 $((1022 * 135000000)))")"
+expect "form 4: a drain of 1023 counts" "9 10" "$(cycles_on "$(gauge_of_form 4 160 5 0 9 $((1023 * 135000000)))")"
+expect "form 4: a drain of nearly 64 LMD" "9 73" "$(cycles_on "$(gauge_of_form 4 160 5 0 9 $((counts_65535 - 1)))")"
+for drain in "$counts_65535" $((counts_65535 + 1)) $((1 << 62)) $((1 << 63)) -1; do
+    refused_form "form 4, a drain of $drain grains" "$(gauge_of_form 4 160 5 0 9 "$drain")"
 done
 for form in 1 2 3; do
+    expect "form $form: no cycles" "0 0" "$(cycles_on "$(gauge_of_form "$form" 10)")"
+done
+
+# The first byte tells the form, which has its own length: 41 bytes the first two, 43 the third, 53 the fourth.
+for form in 0 5 255; do
+    for other in 2 3 4; do
+        refused_form "form $form, which is none, in the bytes of form $other" \
+            "$(gauge_of_form "$other" 160 | sed "s/load 0$other/load$(number_bytes "$form" 1)/")"
+    done
+done
+for form in 1 2 3 4; do
     refused_form "form $form with a byte less" "$(gauge_of_form "$form" 10 | sed 's/ ..$//')"
     refused_form "form $form with a byte more" "$(gauge_of_form "$form" 10) 00"
 done
-refused_form "form 1 in the 43 bytes of form 3" "$(gauge_of_form 1 10) 00 00"
-refused_form "form 2 in the 43 bytes of form 3" "$(gauge_of_form 2 160) 00 00"
-refused_form "form 3 in the 41 bytes of form 2" "$(gauge_of_form 3 160 | sed 's/ .. ..$//')"
+for form in 1 2 3 4; do
+    for other in 1 2 3 4; do
+        case $form$other in
+        11 | 22 | 33 | 44) continue ;;
+        12 | 21) continue ;; # they have one length, and SI 10 is right in both
+        esac
+        refused_form "form $form in the bytes of form $other" "$(gauge_of_form "$other" 10 | sed "s/load 0$other/load 0$form/")"
+    done
+done
 
 # A form 1 gauge with SI 5 goes on by the rule of form 2: 16 * 5 = 80, then floor(15 * 80 / 16) + 12 = 87, 81 + 12 = 93, 87 + 12 = 99, which show
 # 6, 6 and 7. NAC is 511 in all three; STTE is 60 * 511 / 6 = 5110 twice, then 60 * 511 / 7 = 4380. In whole units SI would stay: floor(87 / 16) = 5.
@@ -134,29 +176,51 @@ goes_on() {
     expect "a drive of version $1: LMD is taught" "1024 1008" "$(registers | awk 'NR == 101 { before = $2 } NR == 102 { print before, $2 }')"
 }
 
-# Of version 1.0.0 every register in every row but SI and STTE.
-but_standby() { # COUNT: the registers of the last rows without SI and STTE
-    registers | tail -n "$1" | awk '{ $15 = ""; $16 = ""; print }'
+# No older version counted cycles: CYCT may be less than in the drive made in one run.
+of_older() { # COUNT [COLUMN ..]: the registers of the last rows without CYCT and those columns
+    registers | tail -n "$1" | awk -v columns="${*:2} 18" 'BEGIN { n = split(columns, left_out, " ") } { for (i = 1; i <= n; i++) $left_out[i] = ""; print }'
 }
+
+# Of version 1.0.0 every other register in every row but SI and STTE.
 kept_by 1 40
 goes_on 1.0.0
-of_kept=$(but_standby $((rows_after + 1)))
+of_kept=$(of_older $((rows_after + 1)) 15 16)
 run --all before.txt after.txt
-expect "a drive of version 1.0.0 goes on" "$(but_standby $((rows_after + 1)))" "$of_kept"
+expect "a drive of version 1.0.0 goes on" "$(of_older $((rows_after + 1)) 15 16)" "$of_kept"
 
-# Of version 2.1.1 every register in every row. It had rested for an hour, which it did not count: the bytes differ in that alone, a count of 0 in place
-# of 703, and from the first counted current on in nothing.
+# Of version 2.1.1 every other register in every row. It had rested for an hour, which it did not count: the bytes differ in that and in the drain, a count
+# of 0 in place of 703.
 kept_by 2 15
 echo 'rest 703 1180' >>before.txt
 goes_on 2.1.1
-of_kept=$(registers)
+of_kept=$(of_older $((rows_after + 1)))
 run --all before.txt after.txt
-expect "a drive of version 2.1.1 goes on" "$(registers | tail -n $((rows_after + 1)))" "$of_kept"
+expect "a drive of version 2.1.1 goes on" "$(of_older $((rows_after + 1)))" "$of_kept"
+# without_cycles FILE: saved bytes with 0 for CYCT and the drain.
+without_cycles() {
+    sed "s/\( ..\)\{10\}\$/$(number_bytes 0 10)/" "$1"
+}
 run --save of-kept.saved kept.txt
 run --save of-calls.saved before.txt
-expect "a drive of version 2.1.1: the bytes" "$(sed "s/$(number_bytes 703 2)\$/$(number_bytes 0 2)/" of-calls.saved)" "$(cat of-kept.saved)"
+expect "a drive of version 2.1.1: the bytes" "$(without_cycles of-calls.saved | sed "s/$(number_bytes 703 2)\(\( ..\)\{10\}\)\$/$(number_bytes 0 2)\1/")" \
+    "$(cat of-kept.saved)"
 expect "a drive of version 2.1.1: an hour of rest is not counted" "15 0" "$(estimate_on "$(cat kept.txt)") $(estimate_on "$(cat before.txt)")"
 head -n 101 after.txt >taught.txt
 run --save of-kept.saved kept.txt taught.txt
 run --save of-calls.saved before.txt taught.txt
-expect "a drive of version 2.1.1 goes on: the saved bytes" "$(cat of-calls.saved)" "$(cat of-kept.saved)"
+expect "a drive of version 2.1.1 goes on: the saved bytes" "$(without_cycles of-calls.saved)" "$(without_cycles of-kept.saved)"
+
+# Version 3.0.0 kept the same drive with the hour's rest counted: the bytes differ in the drain alone.
+kept_by 3 15
+echo 'rest 703 1180' >>before.txt
+goes_on 3.0.0
+of_kept=$(of_older $((rows_after + 1)))
+run --all before.txt after.txt
+expect "a drive of version 3.0.0 goes on" "$(of_older $((rows_after + 1)))" "$of_kept"
+run --save of-kept.saved kept.txt
+run --save of-calls.saved before.txt
+expect "a drive of version 3.0.0: the bytes" "$(without_cycles of-calls.saved)" "$(cat of-kept.saved)"
+expect "a drive of version 3.0.0: an hour of rest is counted" "0 0" "$(estimate_on "$(cat kept.txt)") $(estimate_on "$(cat before.txt)")"
+run --save of-kept.saved kept.txt taught.txt
+run --save of-calls.saved before.txt taught.txt
+expect "a drive of version 3.0.0 goes on: the saved bytes" "$(without_cycles of-calls.saved)" "$(without_cycles of-kept.saved)"

@@ -2,9 +2,9 @@
 # A preview shows what a line would leave, before it (request A2): the registers below its row are those of the row after the line itself, and its
 # own row has the gauge as it was.
 
-# Of a table with --all, the seventeen registers below each preview.
+# Of a table with --all, the eighteen registers below each preview.
 would_be() {
-    awk '/^# +would be / { line = $4; for (i = 5; i <= 20; i++) line = line " " $i; print line }' printed
+    awk '/^# +would be / { line = $4; for (i = 5; i <= 21; i++) line = line " " $i; print line }' printed
 }
 
 # The commands that would be obeyed.
@@ -43,9 +43,9 @@ previewed 'preview 0x56' 'write 0 0x56' 0xC5 WRTLMD
 list lines.txt 'c v t\n2 3700 1192\n20 4150 1192\n-3000 3600 1192\npreview nac 900\n'
 run --all lines.txt
 expect "a preview stands under the headings" "\
-      time number   NAC   LMD RSOC        FLAGS   CAC   TTE MODE    AR ARTTE  TEMP  VOLT  FCAC   IAV   TTF    SI  STTE  CEDV call
-0:00:15.36      0  1019  1024   99       CI+VDQ   892    17 0x40     0 65535  1192  3600   897  3000 65535    10  6114  3000 preview nac 900
-#        would be   900  1024   87           CI   773    15 0x40   900    58  1192  3600   897  3000 65535    10  5400  3000 by WRTNAC
+      time number   NAC   LMD RSOC        FLAGS   CAC   TTE MODE    AR ARTTE  TEMP  VOLT  FCAC   IAV   TTF    SI  STTE  CEDV  CYCT call
+0:00:15.36      0  1019  1024   99       CI+VDQ   892    17 0x40     0 65535  1192  3600   897  3000 65535    10  6114  3000     0 preview nac 900
+#        would be   900  1024   87           CI   773    15 0x40   900    58  1192  3600   897  3000 65535    10  5400  3000     0 by WRTNAC
 # 5 calls, none refused" "$(sed -n '1p; 6,$p' printed)"
 
 # Wherever previews stand, accepted or refused, the other rows and the saved bytes are those of the list without them.

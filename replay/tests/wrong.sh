@@ -2,11 +2,12 @@
 # Wrong lists. Each is run alone, as the second of two, and on standard input; each time the messages have to be the expected ones, with the right
 # name and line, the status 2, and nothing may be printed or saved.
 
-words='expected open, load, window, rest, write, read, preview, estimate, nac, lmd, done, reset, partial or three numbers'
+words='expected open, load, window, rest, write, read, preview, estimate, nac, lmd, done, reset, partial, repeat, end or three numbers'
 previews='expected a key, decimal or with 0x, nac, lmd, done, reset or partial'
 int32='expected a whole number from -2147483648 to 2147483647, decimal'
 uint32='expected a whole number from 0 to 4294967295, decimal'
 uint16='expected a whole number from 0 to 65535, decimal'
+rounds='expected a whole number from 1 to 10000, decimal'
 
 # refused_list TITLE MESSAGES ARGUMENTS: one test.
 refused_list() {
@@ -42,6 +43,8 @@ wrong "open bench\n$(printf '%050d' 0 | tr 0 x)\n" "2: unknown word '$(printf '%
 wrong 'open bench\npreview window 2 3700 1192\n' "2: preview of 'window'; $previews"
 wrong 'open bench\npreview preview done\n' "2: preview of 'preview'; $previews"
 wrong 'open bench\npreview estimate 3700\n' "2: preview of 'estimate'; $previews"
+wrong 'open bench\npreview repeat 3\n' "2: preview of 'repeat'; $previews"
+wrong 'open bench\npreview end\n' "2: preview of 'end'; $previews"
 wrong 'open bench\npreview A9\n' "2: preview of 'A9'; $previews"
 wrong 'open bench\npreview # nothing\n' "2: preview of ''; $previews"
 wrong '\nc v t\n2 3700 1192\n' '2: c v t after the first line; expected it only there'
@@ -67,6 +70,9 @@ wrong 'open bench\nestimate 3700 1192\n' '2: numbers for estimate: 2; expected 1
 wrong 'open bench\ndone 1\n' '2: numbers for done: 1; expected 0'
 wrong 'open bench\nreset now\n' '2: numbers for reset: 1; expected 0'
 wrong 'open bench\npartial 0\n' '2: numbers for partial: 1; expected 0'
+wrong 'open bench\nrepeat\nend\n' '2: numbers for repeat: 0; expected 1'
+wrong 'open bench\nrepeat 2 3\nend\n' '2: numbers for repeat: 2; expected 1'
+wrong 'open bench\nrepeat 2\nend 2\n' '3: numbers for end: 1; expected 0'
 
 # What is no number, or none of the C type.
 wrong 'open bench\nwindow 1.5 3700 1192\n' "2: C of window is '1.5'; $int32"
@@ -98,6 +104,26 @@ wrong 'open bench\nread 0 4294967296\n' "2: COUNT of read is '4294967296'; $uint
 wrong 'open bench\nnac 65536\n' "2: N of nac is '65536'; $uint16"
 wrong 'open bench\nlmd -1\n' "2: N of lmd is '-1'; $uint16"
 wrong 'open bench\nlmd 0x10\n' "2: N of lmd is '0x10'; $uint16"
+wrong 'open bench\nrepeat 0\nend\n' "2: N of repeat is '0'; $rounds"
+wrong 'open bench\nrepeat 10001\nend\n' "2: N of repeat is '10001'; $rounds"
+wrong 'open bench\nrepeat -1\nend\n' "2: N of repeat is '-1'; $rounds"
+wrong 'open bench\nrepeat 0x10\nend\n' "2: N of repeat is '0x10'; $rounds"
+wrong 'open bench\nrepeat 18446744073709551617\nend\n' "2: N of repeat is '18446744073709551617'; $rounds"
+
+# Repeats that do not end, ends without one, and more than two in each other. Each mistake is reported once.
+wrong 'open bench\nend\n' '2: end without repeat; expected repeat before it'
+wrong 'open bench\nrepeat 2\ndone\nend\nend\n' '5: end without repeat; expected repeat before it'
+wrong 'open bench\nrepeat 2\ndone\n' '3: the list ends in the repeat of line 2; expected end before that'
+wrong 'open bench\nrepeat 2\nrepeat 3\ndone\nend\n# last' '6: the list ends in the repeat of line 2; expected end before that'
+wrong 'open bench\nrepeat 2\nrepeat 3\ndone' '4: the list ends in the repeat of line 3; expected end before that'
+wrong 'open bench\nrepeat 2\nrepeat 2\nrepeat 2\ndone\nend\nend\nend\n' '4: repeat inside 2 others; expected at most one around it'
+wrong 'open bench\nrepeat 0\nrepeat 2\nrepeat 2\nend\n' "2: N of repeat is '0'; $rounds" \
+    '4: repeat inside 2 others; expected at most one around it' '5: the list ends in the repeat of line 3; expected end before that'
+wrong 'open bench\nrepeat 2\nwindw 1 2 3\nend\n' "3: unknown word 'windw'; $words"
+list first.txt 'open bench\nrepeat 2\n'
+list wrong.txt 'done\nend\n'
+refused_list "a repeat that ends in another list" "replay: first.txt:2: the list ends in the repeat of line 2; expected end before that
+replay: wrong.txt:2: end without repeat; expected repeat before it" first.txt wrong.txt
 
 # Bytes.
 wrong 'open\n' '1: open without bytes; expected them in hexadecimal, or bench'
@@ -118,6 +144,7 @@ wrong '# first\nwindow 2 3700 1192\nrest 1 1192\nwrite 1 1\nread 1 1\nnac 1\nlmd
     "9: reset $before" "10: partial $before" "11: preview $before"
 wrong 'preview nac 1\nopen bench\n' "1: preview nac $before"
 wrong 'estimate 3700\nopen bench\n' "1: estimate $before"
+wrong 'repeat 2\ndone\nend\nopen bench\n' "2: done $before"
 
 # Bytes that are no text of lines.
 crlf="ends in CR LF; expected LF alone, as by tr -d '\\r'"

@@ -6,6 +6,7 @@ use configuration::configuration::Configuration;
 use configuration::configuration::cold_threshold;
 use configuration::configuration::dcgn;
 use configuration::configuration::dcoff;
+use configuration::configuration::gaf;
 use configuration::configuration::ilmd;
 use configuration::configuration::tcgn;
 
@@ -24,11 +25,21 @@ pub fn dt(configuration: Configuration, temperature: u16) -> u16
     threshold - temperature
 }
 
-fn rate_term(configuration: Configuration, current: u16, temperature: u16) -> u64
-    ensures { λ r. ⌜ r ≡ Spec.rateTerm configuration current temperature ⌝ }
-    ensures range { λ r. ⌜ r ≤ 65_535 * 31 * 34_848 ⌝ }
+// ADCGN in 32nds: DCGN as the cycles have raised it.
+fn adcgn(configuration: Configuration, cyct: u16) -> u32
+    ensures { λ r. ⌜ r ≡ Spec.adcgn configuration cyct ⌝ }
+    ensures range { λ r. ⌜ r ≤ 31 * 380_867 ⌝ }
 {
-    let gain = dcgn(configuration) as u64;
+    let quotient = (cyct / 16) as u32;
+    let aged = tcgn(configuration) as u32 * quotient * gaf(configuration) as u32;
+    dcgn(configuration) as u32 * (32 + aged)
+}
+
+fn rate_term(configuration: Configuration, current: u16, temperature: u16, cyct: u16) -> u64
+    ensures { λ r. ⌜ r ≡ Spec.rateTerm configuration current temperature cyct ⌝ }
+    ensures range { λ r. ⌜ r ≤ 65_535 * (31 * 380_867) * 34_848 ⌝ }
+{
+    let gain = adcgn(configuration, cyct) as u64;
     let cold = tcgn(configuration) as u64 * dt(configuration, temperature) as u64;
     current as u64 * gain * (128 + cold)
 }
@@ -36,29 +47,29 @@ fn rate_term(configuration: Configuration, current: u16, temperature: u16) -> u6
 fn offset_term(configuration: Configuration) -> u64
     ensures { λ r. ⌜ r ≡ Spec.offsetTerm configuration ⌝ }
 {
-    4_096 * dcgn(configuration) as u64 * dcoff(configuration) as u64 * ilmd(configuration) as u64
+    131_072 * dcgn(configuration) as u64 * dcoff(configuration) as u64 * ilmd(configuration) as u64
 }
 
 // DCMP, counts.
-pub fn dcmp(configuration: Configuration, current: u16, temperature: u16) -> u32
-    ensures { λ r. ⌜ r ≡ Spec.dcmp configuration current temperature ⌝ }
+pub fn dcmp(configuration: Configuration, current: u16, temperature: u16, cyct: u16) -> u64
+    ensures { λ r. ⌜ r ≡ Spec.dcmp configuration current temperature cyct ⌝ }
 {
-    let rate = rate_term(configuration, current, temperature);
+    let rate = rate_term(configuration, current, temperature, cyct);
     let offset = offset_term(configuration);
     if offset <= rate {
-        return ((rate - offset + 32_767) / 32_768) as u32;
+        return (rate - offset + 1_048_575) / 1_048_576;
     }
     0
 }
 
 // A capacity less its compensation, at least 0.
-pub fn compensated(capacity: u16, reduction: u32) -> u16
+pub fn compensated(capacity: u16, reduction: u64) -> u16
     ensures { λ r. ⌜ r ≡ Spec.compensated capacity reduction ⌝ }
 {
-    if (capacity as u32) < reduction {
+    if (capacity as u64) < reduction {
         return 0;
     }
-    (capacity as u32 - reduction) as u16
+    (capacity as u64 - reduction) as u16
 }
 
 // The floored, capped quotient that every time register is.

@@ -1,2 +1,3 @@
-// The compensation for current and temperature, and the quotient that the time registers are.
+// The compensation for current, temperature and age, and the quotient that the time registers are.
+pub mod claim;
 pub mod compensation;

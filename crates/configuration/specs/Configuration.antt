@@ -82,6 +82,10 @@ tcgn c = tcomp c / 8
 abbrev pub toff : List ℕ → ℕ
 toff c = tcomp c % 8
 
+-- "GAF in the two low bits of ID3" (A5 of paper 02)
+abbrev pub gaf : List ℕ → ℕ
+gaf c = id3 c % 4
+
 -- 4 × (273 + TOFF), quarter kelvins: below it the compensation grows and a run does not qualify
 abbrev pub coldThreshold : List ℕ → ℕ
 coldThreshold c = 4 * (273 + toff c)

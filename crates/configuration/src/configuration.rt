@@ -21,6 +21,8 @@ const TAPER: usize = 5;
 
 const PKCFG: usize = 6;
 
+const ID3: usize = 7;
+
 const DCOMP: usize = 8;
 
 const TCOMP: usize = 9;
@@ -132,6 +134,13 @@ pub fn toff(configuration: Configuration) -> u8
     ensures range { λ r. ⌜ r < 8 ⌝ }
 {
     byte(configuration, TCOMP) % 8
+}
+
+pub fn gaf(configuration: Configuration) -> u8
+    ensures { λ r. ⌜ r ≡ Spec.gaf configuration ⌝ }
+    ensures range { λ r. ⌜ r < 4 ⌝ }
+{
+    byte(configuration, ID3) % 4
 }
 
 pub fn cold_threshold(configuration: Configuration) -> u16

@@ -5,28 +5,32 @@ use native.Mathlib.Omega.{arith}
 use borrow.Author.Tests.{eq-eqb, ne-eqb}
 use Rattle.sample.specs.declared.current.Current.{Current}
 use Rattle.counters.specs.Counters.{countersMoved, countersRested, mostRests}
+use Rattle.counters.specs.Cycles.{cyclesMoved}
 use Rattle.counters.specs.declared.counters.Counters.{Counters}
+use Rattle.counters.specs.declared.cycles.Cycles.{Cycles}
 
-abbrev pub countersOf : ℕ → Counters
-countersOf rests = record { rests = rests }
+abbrev pub countersOf : ℕ → Cycles → Counters
+countersOf rests cycles = record { rests = rests; cycles = cycles }
 
 -- ---- each way of the functions
 
-pub stopped : (n : ℕ) (x : Counters) → mostRests ≤ x .rests + n → countersOf mostRests ≡ countersRested n x
-unfolding countersRested
-stopped n x h = ap countersOf (let e : mostRests ≡ min (x .rests + n) mostRests = omega arith in e)
+module _ (n : ℕ) (x : Counters) where
+  pub stopped : mostRests ≤ x .rests + n → countersOf mostRests (x .cycles) ≡ countersRested n x
+  unfolding countersRested
+  stopped h = ap (λ (m : ℕ). countersOf m (x .cycles)) (let e : mostRests ≡ min (x .rests + n) mostRests = omega arith in e)
 
-pub counted : (n : ℕ) (x : Counters) → x .rests + n < mostRests → countersOf (x .rests + n) ≡ countersRested n x
-unfolding countersRested
-counted n x h = ap countersOf (let e : x .rests + n ≡ min (x .rests + n) mostRests = omega arith in e)
+  pub counted : x .rests + n < mostRests → countersOf (x .rests + n) (x .cycles) ≡ countersRested n x
+  unfolding countersRested
+  counted h = ap (λ (m : ℕ). countersOf m (x .cycles)) (let e : x .rests + n ≡ min (x .rests + n) mostRests = omega arith in e)
 
-pub cleared : (c : Current) (x : Counters) → (c .magnitude ≡ 0 → ⊥) → countersOf 0 ≡ countersMoved c x
-unfolding countersMoved
-cleared c x n = simp (ne-eqb (c .magnitude) 0 n)
+module _ (lmd : ℕ) (c : Current) (x : Counters) {y : Cycles} (e : y ≡ cyclesMoved lmd c (x .cycles)) where
+  pub cleared : (c .magnitude ≡ 0 → ⊥) → countersOf 0 y ≡ countersMoved lmd c x
+  unfolding countersMoved
+  cleared n = simp (ne-eqb (c .magnitude) 0 n) (ap (countersOf 0) e)
 
-pub kept : (c : Current) (x : Counters) → c .magnitude ≡ 0 → x ≡ countersMoved c x
-unfolding countersMoved
-kept c x e = simp (eq-eqb (c .magnitude) 0 e)
+  pub kept : c .magnitude ≡ 0 → countersOf (x .rests) y ≡ countersMoved lmd c x
+  unfolding countersMoved
+  kept z = simp (eq-eqb (c .magnitude) 0 z) (ap (countersOf (x .rests)) e)
 
 -- ---- what callers use
 
@@ -34,4 +38,5 @@ kept c x e = simp (eq-eqb (c .magnitude) 0 e)
 pub rested-twice : (n m : ℕ) (x : Counters) → countersRested m (countersRested n x) ≡ countersRested (n + m) x
 unfolding countersRested
 rested-twice n m x =
-    ap countersOf (let e : min (min (x .rests + n) mostRests + m) mostRests ≡ min (x .rests + (n + m)) mostRests = omega arith in e)
+    ap (λ (k : ℕ). countersOf k (x .cycles))
+    (let e : min (min (x .rests + n) mostRests + m) mostRests ≡ min (x .rests + (n + m)) mostRests = omega arith in e)

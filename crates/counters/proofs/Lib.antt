@@ -1,2 +1,3 @@
 pub mod CountersKept
 pub mod CountersLaws
+pub mod CyclesLaws

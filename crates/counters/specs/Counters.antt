@@ -1,33 +1,38 @@
 -- What the gauge counts beside its charge. A4 of paper 02: "The gauge therefore counts rest windows since the last window with c not 0 or since
--- opening or a reset, stopping at 65,535". Definitions only; assumes nothing.
-use mathlib.Core.Bool.{cond}
+-- opening or a reset, stopping at 65,535"; the cycles of A5. Definitions only; assumes nothing.
+use mathlib.Core.Bool.{Bool, cond}
 use Prim.Native.Nat.{ℕ, _+_, min}
 use lib.Dec.{eqb}
 use Rattle.command.specs.declared.command.Command.{Command}
 use Rattle.command.specs.declared.command.Command.the-variants.{Wrtnac, Done, Prst, Frst, Wrtlmd}
 use Rattle.sample.specs.declared.current.Current.{Current}
+use Rattle.counters.specs.Cycles.{cyclesAccepted, cyclesMoved, noCycles}
 use Rattle.counters.specs.declared.counters.Counters.{Counters}
 
 -- "since opening"
 unfoldable pub openedCounters : Counters
-openedCounters = record { rests = 0 }
+openedCounters = record { rests = 0; cycles = noCycles }
 
 -- "stopping at 65,535"
 abbrev pub mostRests : ℕ
 mostRests = 65_535
 
--- the windows of a rest are counted
+-- the windows of a rest are counted; it adds to no cycle
 unfoldable pub countersRested : ℕ → Counters → Counters
-countersRested n x = record { rests = min (x .rests + n) mostRests }
+countersRested n x = record { rests = min (x .rests + n) mostRests; cycles = x .cycles }
 
 -- "since the last window with c not 0": one with c = 0 neither counts nor clears
-unfoldable pub countersMoved : Current → Counters → Counters
-countersMoved c x = record { rests = cond (eqb (c .magnitude) 0) (x .rests) 0 }
+unfoldable pub countersMoved : ℕ → Current → Counters → Counters
+countersMoved lmd c x = record { rests = cond (eqb (c .magnitude) 0) (x .rests) 0; cycles = cyclesMoved lmd c (x .cycles) }
 
--- "or a reset": PRST and FRST
+-- "or a reset": PRST and FRST; of the cycles, "PRST keeps both and FRST clears both"
 unfoldable pub countersObeyed : Command → Counters → Counters
 countersObeyed Wrtnac x = x
 countersObeyed Done x = x
-countersObeyed Prst x = openedCounters
+countersObeyed Prst x = record { rests = 0; cycles = x .cycles }
 countersObeyed Frst x = openedCounters
 countersObeyed Wrtlmd x = x
+
+-- the count of rest windows is every number of its two bytes
+unfoldable pub countersAccepted : Counters → Bool
+countersAccepted x = cyclesAccepted (x .cycles)

@@ -5,3 +5,6 @@ use Rattle.counters.specs.declared.counters.Counters.{Counters}
 pub record CountersFit (x : Counters) : Type 0 where
   -- "in two bytes" (A4 of paper 02)
   pub rests : x .rests < 256 ^ 2
+  -- "Form 4 appends CYCT and the 8-byte drain" (A5)
+  pub cyct : x .cycles .cyct < 256 ^ 2
+  pub drain : x .cycles .drain < 256 ^ 8

@@ -1,6 +1,7 @@
 // The counters of a gauge, each moved by windows, rests and commands.
 ghost use mathlib.Core.Path.{_≡_};
 ghost use Rattle.counters.specs.Counters as Spec;
+use crate::cycles::Cycles;
 use command::command::Command;
 use sample::current::Current;
 
@@ -10,6 +11,8 @@ const MOST_RESTS: u16 = 65_535;
 pub struct Counters {
     // rest windows since the last window with c not 0, since opening or a reset
     pub rests: u16,
+    // CYCT and its drain
+    pub cycles: Cycles,
 }
 
 impl Counters {
@@ -17,7 +20,8 @@ impl Counters {
     pub fn opened() -> Counters
         ensures { λ r. ⌜ r ≡ Spec.openedCounters ⌝ }
     {
-        Counters { rests: 0 }
+        let cycles = Cycles::none();
+        Counters { rests: 0, cycles }
     }
 
     // A rest of a number of windows.
@@ -33,10 +37,12 @@ impl Counters {
         self
     }
 
-    // A window with the counted current c.
-    pub fn moved(mut self, current: Current) -> Counters
-        ensures { λ r. ⌜ r ≡ Spec.countersMoved current self ⌝ }
+    // A window with the counted current c, and the LMD before it.
+    pub fn moved(mut self, lmd: u16, current: Current) -> Counters
+        ensures { λ r. ⌜ r ≡ Spec.countersMoved lmd current self ⌝ }
     {
+        let cycles = self.cycles.moved(lmd, current);
+        self.cycles = cycles;
         if current.magnitude != 0 {
             self.rests = 0;
             return self;
@@ -44,16 +50,29 @@ impl Counters {
         self
     }
 
-    // Settings leave the count, resets clear it.
+    // Settings leave the counters; resets clear the count of rest windows, FRST the cycles too.
     pub fn obeyed(self, command: Command) -> Counters
         ensures { λ r. ⌜ r ≡ Spec.countersObeyed command self ⌝ }
     {
+        let cycles = self.cycles;
+        let none = Cycles::none();
         match command {
             Command::Wrtnac => self,
             Command::Done => self,
-            Command::Prst => Counters { rests: 0 },
-            Command::Frst => Counters { rests: 0 },
+            Command::Prst => Counters { rests: 0, cycles },
+            Command::Frst => Counters {
+                rests: 0,
+                cycles: none,
+            },
             Command::Wrtlmd => self,
         }
+    }
+
+    // What 14 asks of the counters.
+    pub fn accepted(self) -> bool
+        ensures { λ r. ⌜ r ≡ Spec.countersAccepted self ⌝ }
+    {
+        let cycles = self.cycles;
+        cycles.accepted()
     }
 }

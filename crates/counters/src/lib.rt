@@ -1,2 +1,3 @@
 // What the gauge counts beside its charge.
 pub mod counters;
+pub mod cycles;

@@ -7,7 +7,7 @@ use lib.IntN.{ℤ, pos}
 use lib.ListN.{getD, length}
 use Rattle.estimate.specs.Estimate.{distanceFrom, estimated}
 use Rattle.flags.specs.Byte.{vdqOf}
-use Rattle.form.specs.Form.{Ar, Configuration, Dcr, Flags, Form, Held, Lmd, Mode, Rests, bytesOf, newest, numberOf}
+use Rattle.form.specs.Form.{Ar, Configuration, CycleDrain, Cyct, Dcr, Flags, Form, Held, Lmd, Mode, Rests, bytesOf, newest, numberOf}
 use Rattle.gauge.specs.Opening.{openAnswer}
 use Rattle.gauge.specs.declared.state.Gauge.{Gauge}
 use Rattle.grains.specs.declared.run.Run.{Run}
@@ -16,7 +16,7 @@ use Rattle.history.specs.Account.{fixing}
 use Rattle.history.specs.After as Gauges
 use Rattle.history.specs.Call.{Call}
 use Rattle.history.specs.Claim.{drainOf, runOf}
-use Rattle.history.specs.Counts.{restCount}
+use Rattle.history.specs.Counts.{cycleCount, restCount}
 use Rattle.history.specs.History.{afterCalls, openedHistory}
 use Rattle.history.specs.Kept.{History}
 use Rattle.history.specs.Refused.{refusalOf}
@@ -64,6 +64,9 @@ pub record HoldsHistory (saved : List ℕ) (x : History) : Type 0 where
   pub run : runAt newest saved ≡ runOf (x .account .run)
   -- the count of rest windows (A4 of paper 02)
   pub rests : numberOf Rests newest saved ≡ restCount (x .counts)
+  -- CYCT and the cycle drain (A5)
+  pub cycles : numberOf Cyct newest saved ≡ cycleCount (x .counts)
+  pub drain : numberOf CycleDrain newest saved ≡ x .counts .drain
   -- "A call is refused exactly where the numbers below say so"; none of them is 14
   pub numbers : (call : Call) → calledNumber call saved ≡ refusalOf call x
   -- an estimate that is not refused is a part of L, and its distance is from floor(H / G) (A4 of paper 02)
@@ -76,15 +79,15 @@ FromOpening =
     (configuration buffer : List ℕ) → ((k : ℕ) → getD configuration k 0 < 256) → openNumber configuration (length buffer) ≡ Refusal.none
     → (calls : List Call) → HoldsHistory (bytesAfter calls (openBytes configuration buffer)) (afterCalls calls (openedHistory configuration))
 
--- the history begun at what bytes of a form hold: their h is the last fixing point, and nothing is summed yet; their count of rest windows goes on,
--- 0 in a form that has none
+-- the history begun at what bytes of a form hold: their h is the last fixing point, and nothing is summed yet; their counts go on, 0 in a form that
+-- has none
 abbrev pub begunIn : Form → List ℕ → History
 begunIn form bytes =
     record {
       configuration = bytesOf Configuration form bytes;
       account = fixing (numberOf Held form bytes) (numberOf Lmd form bytes) (drainOf (runAt form bytes));
       host = record { mode = numberOf Mode form bytes; ar = numberOf Ar form bytes };
-      counts = record { rests = numberOf Rests form bytes };
+      counts = record { rests = numberOf Rests form bytes; cycles = numberOf Cyct form bytes; drain = numberOf CycleDrain form bytes };
     }
 
 -- demand 3 from any bytes of the newest form that are accepted, for the history begun at what they hold: a handset that was switched off or

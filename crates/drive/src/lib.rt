@@ -1,6 +1,6 @@
 // Demand 3 said of the saved bytes and the calls from C. The functions do nothing; their contracts are the claims.
 ghost use Rattle.drive.specs.Claim.{EveryDrive, FromOpening, FromSaved};
-ghost use Rattle.drive.specs.OlderForms.{Form1Reads, Form1Shows, Form2Reads};
+ghost use Rattle.drive.specs.OlderForms.{Form1Reads, Form1Shows, Form2Reads, Form3Reads};
 ghost use Rattle.drive.specs.Preview.{PreviewOfCopy};
 ghost use Rattle.drive.specs.Rests.{RestCallsOfOne};
 ghost use Rattle.drive.specs.Update.{Converted, ConvertedSame, FromUpdate};
@@ -27,6 +27,10 @@ pub fn form_1_shows()
 
 pub fn form_2_reads()
     ensures { λ _. ⌜ Form2Reads ⌝ }
+{}
+
+pub fn form_3_reads()
+    ensures { λ _. ⌜ Form3Reads ⌝ }
 {}
 
 pub fn converted()

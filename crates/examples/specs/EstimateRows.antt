@@ -4,6 +4,7 @@ use mathlib.Core.Path.{_≡_}
 use Prim.Native.Nat.{ℕ}
 use lib.IntN.{ℤ, pos, negsuc}
 use Rattle.counters.specs.Counters.{countersRested}
+use Rattle.counters.specs.Cycles.{noCycles}
 use Rattle.estimate.specs.Estimate.{distanceAfter, estimateAfter, estimateRefusal}
 use Rattle.gauge.specs.Calls.{restAnswer, writeAnswer}
 use Rattle.gauge.specs.declared.state.Gauge.{Gauge}
@@ -13,11 +14,11 @@ use Rattle.examples.specs.Bench.{afterSample, openedPack, withAr}
 use Rattle.examples.specs.PreviewRows.{rejected}
 use Rattle.examples.specs.RestRows.{benchFull}
 
-abbrev restOf : ℕ → Gauge → Gauge
+abbrev pub restOf : ℕ → Gauge → Gauge
 restOf n g = (restAnswer g n (pos 1_192)) .gauge
 
 -- a command, by its bit of MODE and its key
-abbrev commandOf : ℕ → ℕ → Gauge → Gauge
+abbrev pub commandOf : ℕ → ℕ → Gauge → Gauge
 commandOf mode key g = (writeAnswer ((writeAnswer g 1 mode) .gauge) 0 key) .gauge
 
 -- 422 windows of rest while empty, then WRTLMD of 65,535, and DONE: settings keep the count
@@ -82,5 +83,5 @@ pub record EstimateRows : Type 0 where
   pub wrtnac-keeps : (commandOf 0x20 0xA9 (restOf 422 benchFull)) .counters .rests ≡ 422
   pub prst-clears : (commandOf 0x08 0xA9 (restOf 422 benchFull)) .counters .rests ≡ 0
   pub frst-clears : (commandOf 0x02 0xA9 (restOf 422 benchFull)) .counters .rests ≡ 0
-  pub stops : countersRested 2 (record { rests = 65_534 }) ≡ record { rests = 65_535 }
-  pub stays : countersRested 16_875 (record { rests = 65_535 }) ≡ record { rests = 65_535 }
+  pub stops : (countersRested 2 (record { rests = 65_534; cycles = noCycles })) .rests ≡ 65_535
+  pub stays : (countersRested 16_875 (record { rests = 65_535; cycles = noCycles })) .rests ≡ 65_535

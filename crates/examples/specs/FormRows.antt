@@ -1,13 +1,15 @@
--- The forms of the saved bytes at their limits, A1 and A4 of paper 02: each row worked out by hand. Definitions only; assumes nothing.
+-- The forms of the saved bytes at their limits, A1, A4 and A5 of paper 02: each row worked out by hand. Definitions only; assumes nothing.
 use mathlib.Core.List.{List, [], _∷_, _++_}
 use mathlib.Core.Path.{_≡_}
 use Prim.Native.Nat.{ℕ}
 use lib.ListN.{length, replicate, set}
 use Rattle.configuration.specs.BenchPack.{benchPack}
+use Rattle.counters.specs.Cycles.{noCycles}
 use Rattle.form.specs.Form.{newest}
 use Rattle.load.specs.EveryForm.{loadAnswer}
 use Rattle.load.specs.Load.{answerIn}
 use Rattle.numbers.specs.Little.{little}
+use Rattle.registers.specs.Map.{register}
 use Rattle.saved.specs.Save.{savedBytes}
 
 -- the 41 bytes of the bench pack with another ISLC, as opened but for SI: form; configuration; h, DCR 0; LMD 1,024; SI; c, VOLT, TEMP, AR 0; MODE
@@ -19,6 +21,10 @@ savedAs form islc standby =
 -- the same with the count of rest windows, form 3
 abbrev pub savedCounting : ℕ → ℕ → List ℕ
 savedCounting form rests = savedAs form 5 160 ++ little 2 rests
+
+-- and with CYCT and its drain, form 4
+abbrev pub savedCycling : ℕ → ℕ → ℕ → ℕ → List ℕ
+savedCycling form rests cyct drain = savedCounting form rests ++ (little 2 cyct ++ little 8 drain)
 
 pub record FormRows : Type 0 where
   pub length-41 : length (savedAs 1 5 10) ≡ 41
@@ -45,13 +51,27 @@ pub record FormRows : Type 0 where
   pub form-1-rests : (loadAnswer (savedAs 1 5 10)) .gauge .counters .rests ≡ 0
   pub form-2-rests : (loadAnswer (savedAs 2 5 160)) .gauge .counters .rests ≡ 0
   pub form-2-long : (loadAnswer (savedCounting 2 422)) .number ≡ 14
-  -- there is no form 0 and no form 4
+  -- form 4 has 53 bytes; its drain must be below 65,535 × G = 8,847,225,000,000, and may be above LMD × G, 138,240,000,000
+  pub length-53 : length (savedCycling 4 422 7 0) ≡ 53
+  pub form-4-cyct : (loadAnswer (savedCycling 4 422 0x1234 0)) .gauge .counters .cycles .cyct ≡ 0x1234
+  pub form-4-low : register ((loadAnswer (savedCycling 4 422 0x1234 0)) .gauge) 0x2A ≡ 0x34
+  pub form-4-high : register ((loadAnswer (savedCycling 4 422 0x1234 0)) .gauge) 0x2B ≡ 0x12
+  pub form-4-drain : (loadAnswer (savedCycling 4 422 7 8_847_224_999_999)) .gauge .counters .cycles .drain ≡ 8_847_224_999_999
+  pub form-4-below : (loadAnswer (savedCycling 4 422 65_535 8_847_224_999_999)) .number ≡ 0
+  pub form-4-at : (loadAnswer (savedCycling 4 422 0 8_847_225_000_000)) .number ≡ 14
+  pub form-4-short : (loadAnswer (savedCounting 4 422)) .number ≡ 14
+  -- form 3 has no cycles and reads as 0 in both; with ten bytes more it is 14
+  pub form-3-cycles : (loadAnswer (savedCounting 3 422)) .gauge .counters .cycles ≡ noCycles
+  pub form-3-long : (loadAnswer (savedCycling 3 422 7 0)) .number ≡ 14
+  -- there is no form 0 and no form 5
   pub form-0 : (loadAnswer (savedAs 0 5 10)) .number ≡ 14
-  pub form-4 : (loadAnswer (savedCounting 4 422)) .number ≡ 14
+  pub form-5 : (loadAnswer (savedCycling 5 422 7 0)) .number ≡ 14
   -- the newest form alone is taken by the calls from C
-  pub taken-3 : (answerIn newest (savedCounting 3 422)) .number ≡ 0
+  pub taken-4 : (answerIn newest (savedCycling 4 422 7 0)) .number ≡ 0
+  pub taken-3 : (answerIn newest (savedCounting 3 422)) .number ≡ 14
   pub taken-2 : (answerIn newest (savedAs 2 5 160)) .number ≡ 14
   pub taken-1 : (answerIn newest (savedAs 1 5 10)) .number ≡ 14
-  -- what forms 1 and 2 are read as is saved as form 3
-  pub saved-1 : savedBytes ((loadAnswer (savedAs 1 5 10)) .gauge) ≡ savedCounting 3 0
-  pub saved-2 : savedBytes ((loadAnswer (savedAs 2 5 160)) .gauge) ≡ savedCounting 3 0
+  -- what older forms are read as is saved as form 4
+  pub saved-1 : savedBytes ((loadAnswer (savedAs 1 5 10)) .gauge) ≡ savedCycling 4 0 0 0
+  pub saved-2 : savedBytes ((loadAnswer (savedAs 2 5 160)) .gauge) ≡ savedCycling 4 0 0 0
+  pub saved-3 : savedBytes ((loadAnswer (savedCounting 3 422)) .gauge) ≡ savedCycling 4 422 0 0

@@ -1,4 +1,5 @@
 pub mod Bench
+pub mod CycleRows
 pub mod EstimateRows
 pub mod Examples
 pub mod FormRows

@@ -1,9 +1,8 @@
 -- Rules of paper 01 that none of its own examples pins, each row worked out by hand from the paper. Definitions only; assumes nothing.
 use mathlib.Core.Bool.{true, false}
-use mathlib.Core.List.{List}
 use mathlib.Core.Path.{_≡_}
 use Prim.Native.Nat.{ℕ}
-use lib.IntN.{pos, negsuc}
+use lib.IntN.{pos}
 use lib.ListN.{set}
 use Rattle.command.specs.Command.{decide}
 use Rattle.command.specs.declared.command.Command.the-variants.{Done, Prst, Frst, Wrtlmd}
@@ -19,7 +18,7 @@ use Rattle.host.specs.Host.{commandsCleared, initCleared}
 use Rattle.reached.specs.Ending.{endingOf}
 use Rattle.reached.specs.Full.{isFull}
 use Rattle.reached.specs.declared.ending.Ending.the-variants.{Above, Edvf, Edv1, Qualified}
-use Rattle.registers.specs.Values.{fcac, flags, nac}
+use Rattle.registers.specs.Values.{fcac, flags}
 use Rattle.registers.specs.Times.{artte, stte, tte, ttf}
 use Rattle.standby.specs.Standby.{averaged}
 use Rattle.sample.specs.declared.current.Current.{Current}
@@ -41,7 +40,7 @@ pub record Rows : Type 0 where
   pub dt-warm : dt benchPack 1_112 ≡ 0
   pub dt-unmeasured : dt benchPack 0 ≡ 0
   -- DCMP(3,000) at 1,012: 3,000 × 13 × (128 + 2 × 100) = 12,792,000, less 4,096 × 13 × 4 × 4 = 851,968, is 364.4 × 32,768
-  pub dcmp-cold : dcmp benchPack 3_000 1_012 ≡ 365
+  pub dcmp-cold : dcmp benchPack 3_000 1_012 0 ≡ 365
   -- a run one quarter kelvin below the threshold does not qualify
   pub cold-1111 : endingOf benchTerms true 21 3_000 1_111 ≡ Edv1
   pub cold-1112 : endingOf benchTerms true 21 3_000 1_112 ≡ Qualified

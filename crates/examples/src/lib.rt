@@ -1,5 +1,6 @@
 // Computed rows: what the request marks to be proved, its table's examples, and rules that none of those pins. The functions do nothing;
 // their contracts keep the claims in the check.
+ghost use Rattle.examples.specs.CycleRows.{CycleRows};
 ghost use Rattle.examples.specs.EstimateRows.{EstimateRows};
 ghost use Rattle.examples.specs.Examples.{Examples};
 ghost use Rattle.examples.specs.FormRows.{FormRows};
@@ -39,4 +40,8 @@ pub fn proved_rests()
 
 pub fn proved_estimates()
     ensures { λ _. ⌜ EstimateRows ⌝ }
+{}
+
+pub fn proved_cycles()
+    ensures { λ _. ⌜ CycleRows ⌝ }
 {}

@@ -1,2 +1,3 @@
+pub mod BegunLaws
 pub mod FormsLaws
 pub mod SignedLaws

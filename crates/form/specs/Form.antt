@@ -9,9 +9,9 @@ use Rattle.numbers.specs.Little.{bytesAt, numberAt}
 
 -- ---- fields
 
--- `Standby` is SI in units, `Sixteenths` SI in sixteenths, `Rests` the count of rest windows
+-- `Standby` is SI in units, `Sixteenths` SI in sixteenths, `Rests` the count of rest windows, `CycleDrain` what CYCT is counted from
 pub data Name : Type 0 where
-  FormNumber Configuration Held Dcr Lmd Standby Sixteenths Current Voltage Temperature Ar Mode Flags Rests : Name
+  FormNumber Configuration Held Dcr Lmd Standby Sixteenths Current Voltage Temperature Ar Mode Flags Rests Cyct CycleDrain : Name
 
 -- by which names are told apart
 abbrev pub nameNumber : Name → ℕ
@@ -29,6 +29,8 @@ nameNumber Ar = 10
 nameNumber Mode = 11
 nameNumber Flags = 12
 nameNumber Rests = 13
+nameNumber Cyct = 14
+nameNumber CycleDrain = 15
 
 abbrev pub sameName : Name → Name → Bool
 sameName m n = eqb (nameNumber m) (nameNumber n)
@@ -92,16 +94,20 @@ form2 = record { number = 2; fields = replaced Standby (Sixteenths takes 2) (for
 abbrev pub form3 : Form
 form3 = record { number = 3; fields = form2 .fields ++ Rests takes 2 ∷ [] }
 
+-- A5: "Form 4 appends CYCT and the 8-byte drain"
+abbrev pub form4 : Form
+form4 = record { number = 4; fields = form3 .fields ++ Cyct takes 2 ∷ CycleDrain takes 8 ∷ [] }
+
 -- "saving writes the newest form"
 abbrev pub newest : Form
-newest = form3
+newest = form4
 
 abbrev pub savedLength : ℕ
 savedLength = lengthOf (newest .fields)
 
 -- the forms that are read beside it: "Form 1 is still read", "older forms read as 0"
 abbrev pub older : List Form
-older = form1 ∷ form2 ∷ []
+older = form1 ∷ form2 ∷ form3 ∷ []
 
 -- the form of a number; any other number is held to the newest, which it is not
 abbrev pub formNumbered : ℕ → List Form → Form

@@ -2,12 +2,15 @@
 // its end.
 
 // The newest form, in which a gauge is saved.
-pub const FORM: u8 = 3;
+pub const FORM: u8 = 4;
 
-// Form 2, without the count of rest windows.
+// Form 3, without CYCT and its drain.
+pub const FORM_3: u8 = 3;
+
+// Form 2, without the count of rest windows too.
 pub const FORM_2: u8 = 2;
 
-// "form 1", whose SI is in units, and without that count.
+// "form 1", of form 2's length, whose SI is in units.
 pub const FORM_1: u8 = 1;
 
 pub const AT_FORM: u16 = 0;
@@ -38,8 +41,18 @@ pub const AT_FLAGS: u16 = AT_MODE + 1;
 // The count of rest windows.
 pub const AT_RESTS: u16 = AT_FLAGS + 1;
 
-// "41 bytes": forms 1 and 2.
-pub const LENGTH_2: u16 = AT_RESTS;
+// "41 bytes": form 1, and form 2.
+pub const LENGTH_1: u16 = AT_RESTS;
 
-// 43 bytes.
-pub const LENGTH: u16 = AT_RESTS + 2;
+pub const LENGTH_2: u16 = LENGTH_1;
+
+pub const AT_CYCT: u16 = AT_RESTS + 2;
+
+// 43 bytes: form 3.
+pub const LENGTH_3: u16 = AT_CYCT;
+
+// What CYCT is counted from.
+pub const AT_CYCLE_DRAIN: u16 = AT_CYCT + 2;
+
+// 53 bytes.
+pub const LENGTH: u16 = AT_CYCLE_DRAIN + 8;

@@ -7,6 +7,7 @@ use lib.Dec.{eqb}
 use Rattle.charge.specs.Charge.{chargeAccepted}
 use Rattle.charge.proofs.ChargeLaws.{ChargeSound, charge-accepted, charge-sound}
 use Rattle.configuration.specs.Configuration.{dmf, ilmd, s0}
+use Rattle.counters.specs.Counters.{countersAccepted}
 use Rattle.grains.specs.Grains.{grainsOfCounts, nac}
 use Rattle.numbers.proofs.BoolLaws.{and-left, and-right, and-both}
 use Rattle.sample.specs.Sample.{sampleAccepted}
@@ -20,6 +21,7 @@ pub record Sound (g : Gauge) : Type 0 where
   pub charge : ChargeSound (g .charge)
   pub standby : standbyAccepted (s0 (g .configuration)) (g .standby) ≡ true
   pub sample : SampleSound (dmf (g .configuration)) (g .sample)
+  pub counters : countersAccepted (g .counters) ≡ true
 
 module _ (g : Gauge) where
   opens : Bool
@@ -34,24 +36,30 @@ module _ (g : Gauge) where
   sampled : Bool
   sampled = sampleAccepted (dmf (g .configuration)) (g .sample)
 
+  counted : Bool
+  counted = countersAccepted (g .counters)
+
   pub sound : accepted g ≡ true → Sound g
-  unfolding accepted opens charged stands sampled
+  unfolding accepted opens charged stands sampled counted
   sound e =
-      let b = and-right opens (charged && (stands && sampled)) e in
-      let d = and-right charged (stands && sampled) b in
+      let b = and-right opens (charged && (stands && (sampled && counted))) e in
+      let d = and-right charged (stands && (sampled && counted)) b in
+      let f = and-right stands (sampled && counted) d in
       record {
-        ilmd = and-left opens (charged && (stands && sampled)) e;
-        charge = charge-sound (g .charge) (and-left charged (stands && sampled) b);
-        standby = and-left stands sampled d;
-        sample = sample-sound (dmf (g .configuration)) (g .sample) (and-right stands sampled d);
+        ilmd = and-left opens (charged && (stands && (sampled && counted))) e;
+        charge = charge-sound (g .charge) (and-left charged (stands && (sampled && counted)) b);
+        standby = and-left stands (sampled && counted) d;
+        sample = sample-sound (dmf (g .configuration)) (g .sample) (and-left sampled counted f);
+        counters = and-right sampled counted f;
       }
 
   pub sound-accepted : Sound g → accepted g ≡ true
-  unfolding accepted opens charged stands sampled
+  unfolding accepted opens charged stands sampled counted
   sound-accepted s =
-      and-both opens (charged && (stands && sampled)) (s .ilmd)
-      (and-both charged (stands && sampled) (charge-accepted (g .charge) (s .charge))
-      (and-both stands sampled (s .standby) (sample-accepted (dmf (g .configuration)) (g .sample) (s .sample))))
+      and-both opens (charged && (stands && (sampled && counted))) (s .ilmd)
+      (and-both charged (stands && (sampled && counted)) (charge-accepted (g .charge) (s .charge))
+      (and-both stands (sampled && counted) (s .standby)
+      (and-both sampled counted (sample-accepted (dmf (g .configuration)) (g .sample) (s .sample)) (s .counters))))
 
   -- the charge held is at most LMD counts
   pub nac-within : accepted g ≡ true → nac (g .charge .held) ≤ g .charge .lmd
@@ -60,22 +68,27 @@ module _ (g : Gauge) where
       nac-below : (h l : ℕ) → h ≤ grainsOfCounts l → nac h ≤ l
       nac-below h l p = omega arith
 
-  -- ---- the four tests, in their order
+  -- ---- the five tests, in their order
 
   pub no-capacity : eqb (ilmd (g .configuration)) 0 ≡ true → false ≡ accepted g
   unfolding accepted
   no-capacity p = simp p
 
-  pub no-charge : eqb (ilmd (g .configuration)) 0 ≡ false → chargeAccepted (g .charge) ≡ false → false ≡ accepted g
-  unfolding accepted
-  no-charge p q = simp (p, q)
+  module _ (p : eqb (ilmd (g .configuration)) 0 ≡ false) where
+    pub no-charge : chargeAccepted (g .charge) ≡ false → false ≡ accepted g
+    unfolding accepted
+    no-charge q = simp (p, q)
 
-  pub no-standby : eqb (ilmd (g .configuration)) 0 ≡ false → chargeAccepted (g .charge) ≡ true
-      → standbyAccepted (s0 (g .configuration)) (g .standby) ≡ false → false ≡ accepted g
-  unfolding accepted
-  no-standby p q r = simp (p, q, r)
+    module _ (q : chargeAccepted (g .charge) ≡ true) where
+      pub no-standby : standbyAccepted (s0 (g .configuration)) (g .standby) ≡ false → false ≡ accepted g
+      unfolding accepted
+      no-standby r = simp (p, q, r)
 
-  pub last-test : {b : Bool} → eqb (ilmd (g .configuration)) 0 ≡ false → chargeAccepted (g .charge) ≡ true
-      → standbyAccepted (s0 (g .configuration)) (g .standby) ≡ true → b ≡ sampleAccepted (dmf (g .configuration)) (g .sample) → b ≡ accepted g
-  unfolding accepted
-  last-test p q r e = simp (p, q, r) e
+      module _ (r : standbyAccepted (s0 (g .configuration)) (g .standby) ≡ true) where
+        pub no-sample : sampleAccepted (dmf (g .configuration)) (g .sample) ≡ false → false ≡ accepted g
+        unfolding accepted
+        no-sample s = simp (p, q, r, s)
+
+        pub last-test : {b : Bool} → sampleAccepted (dmf (g .configuration)) (g .sample) ≡ true → b ≡ countersAccepted (g .counters) → b ≡ accepted g
+        unfolding accepted
+        last-test s e = simp (p, q, r, s) e

@@ -51,6 +51,7 @@ module _ (g : Gauge) (s : Sound g) where
         charge = command-sound command (termsOf c) (g .host .ar) (g .charge) (s .charge) (omega arith) above;
         standby = reset-kept (isReset command) (s0 c) (g .standby) (s .standby);
         sample = reset-sample (isReset command);
+        counters = Counters.obeyed-accepted (g .counters) (s .counters) command;
       }
 
   decided-sound : (d : Decision) → (d ≡ Obey Wrtlmd → 0 < g .host .ar) → Sound (decided d g)

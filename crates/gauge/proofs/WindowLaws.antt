@@ -35,7 +35,7 @@ module _ (c : Current) (v t : ℕ) (g : Gauge) where
       → x ≡ summed c t g → b ≡ isFull (termsOf (g .configuration)) c v (x .held) (x .lmd) → d ≡ discharge c
       → e ≡ endingOf (termsOf (g .configuration)) (x .run .vdq) d v t → y ≡ filledIf b x → z ≡ chargeEnded e y
       → f ≡ clearedIf (c .charging) (g .flags) → j ≡ flagsEnded e f → h ≡ fullIf b (g .host)
-      → k ≡ discharge c → i ≡ averaged (s0 (g .configuration)) (g .standby) k → m ≡ countersMoved c (g .counters)
+      → k ≡ discharge c → i ≡ averaged (s0 (g .configuration)) (g .standby) k → m ≡ countersMoved (g .charge .lmd) c (g .counters)
       → gaugeOf (g .configuration) z (record { current = c; voltage = v; temperature = t }) i j h m ≡ window c v t g
   unfolding window reachedIn reachedBy chargeReached full ending
   stepped-is {x} {y} {z} {b} {d} {i} {k} {e} {f} {j} {h} px pb pd pe py pz pf pj ph pk pi pm =

@@ -35,6 +35,6 @@ window c v t g =
       flags = flagsEnded ((reachedIn c v t g) .ending) (clearedIf (c .charging) (g .flags));
       -- Step 3
       host = fullIf ((reachedIn c v t g) .full) (g .host);
-      -- "since the last window with c not 0" (A4 of paper 02)
-      counters = countersMoved c (g .counters);
+      -- "since the last window with c not 0" (A4 of paper 02); cycles by "LMD being that before the window" (A5)
+      counters = countersMoved (g .charge .lmd) c (g .counters);
     }

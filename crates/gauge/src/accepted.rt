@@ -20,6 +20,9 @@ impl Gauge {
         if !standby_accepted(configuration, self.standby) {
             return false;
         }
-        self.sample.accepted(dmf(configuration))
+        if !self.sample.accepted(dmf(configuration)) {
+            return false;
+        }
+        self.counters.accepted()
     }
 }

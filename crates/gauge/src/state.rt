@@ -18,6 +18,6 @@ pub struct Gauge {
     pub flags: Flags,
     // MODE and AR
     pub host: Host,
-    // rest windows
+    // rest windows, CYCT and its drain
     pub counters: Counters,
 }

@@ -47,7 +47,7 @@ impl Gauge {
             temperature,
         };
         let standby = averaged(configuration, self.standby, current.discharge());
-        let counters = self.counters.moved(current);
+        let counters = self.counters.moved(self.charge.lmd, current);
         Gauge {
             configuration,
             charge,

@@ -1,5 +1,5 @@
 -- Each call keeps what holds of a gauge and its history: the gauge is accepted, the configuration is the same, the history's charge, capacity
--- and run are the gauge's, its count of rest windows stops at the gauge's, and MODE and AR decide alike. Assumes nothing.
+-- and run are the gauge's, its counts stop at the gauge's, and MODE and AR decide alike. Assumes nothing.
 use mathlib.Core.Bool.{Bool, true, false, cond}
 use mathlib.Core.List.{List}
 use mathlib.Core.Path.{_≡_, refl, sym, ap, _∙_, subst, subst₂}
@@ -15,6 +15,7 @@ use Rattle.command.specs.declared.command.Decision.the-variants.{Obey, Refused}
 use Rattle.configuration.specs.Configuration.{dmf, sd}
 use Rattle.configuration.specs.Terms.{Terms, termsOf}
 use Rattle.counters.specs.Counters.{countersMoved}
+use Rattle.counters.proofs.CountersKept.{accepted-drain}
 use Rattle.gauge.specs.Calls.{storedAt, written}
 use Rattle.gauge.specs.Obey.{decided, obeyed}
 use Rattle.gauge.specs.Rest.{rest}
@@ -89,17 +90,22 @@ module _ (g : Gauge) (x : History) (s : Standing g) (f : Beside g x) where
       (sym e) k
 
   window-count : (a : ℤ) → currentInRange a ≡ true
-      → CountTracks (countersMoved (counted (dmf (g .configuration)) (current a)) (g .counters))
-      (countsAfterWindow (countedCurrent (termsOf (x .configuration)) a) (x .counts))
+      → CountTracks (countersMoved (g .charge .lmd) (counted (dmf (g .configuration)) (current a)) (g .counters))
+      (countsAfterWindow (x .account .learned) (countedCurrent (termsOf (x .configuration)) a) (x .counts))
   window-count a r =
       let c = g .configuration in
-      let k = window-counts (g .counters) (x .counts) (f .counts) (countedCurrent (termsOf c) a) in
-      subst₂ CountTracks (ap (λ (j : Current). countersMoved j (g .counters)) (sym (counted-is (termsOf c) a r)))
-      (ap (λ (d : List ℕ). countsAfterWindow (countedCurrent (termsOf d) a) (x .counts)) (sym (f .configuration))) k
+      let l = g .charge .lmd in
+      let z = countedCurrent (termsOf c) a in
+      let i = counted-is (termsOf c) a r in
+      let small = subst (λ (j : Current). j .magnitude ≤ 65_535) i (counted-within (dmf c) a r) in
+      let k = window-counts (g .counters) (x .counts) (f .counts) l z small (accepted-drain (g .counters) (s .sound .counters)) in
+      subst₂ CountTracks (ap (λ (j : Current). countersMoved l j (g .counters)) (sym i))
+      (ap (λ (m : ℕ). countsAfterWindow m z (x .counts)) (f .tracks .lmd)
+      ∙ ap (λ (d : List ℕ). countsAfterWindow (x .account .learned) (countedCurrent (termsOf d) a) (x .counts)) (sym (f .configuration))) k
 
   pub window-beside : (a v t : ℤ) → InRange a v t
       → Beside (window (counted (dmf (g .configuration)) (current a)) (voltage v) (temperature t) g)
-      (withCounts (countsAfterWindow (countedCurrent (termsOf (x .configuration)) a) (x .counts))
+      (withCounts (countsAfterWindow (x .account .learned) (countedCurrent (termsOf (x .configuration)) a) (x .counts))
       (withAccount (afterWindow (termsOf (x .configuration)) (countedCurrent (termsOf (x .configuration)) a) v t (x .account)) x))
   unfolding window summed reachedIn reachedBy chargeReached
   window-beside a v t r =

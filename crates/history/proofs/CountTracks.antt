@@ -1,42 +1,79 @@
--- The gauge's count of rest windows is the history's, stopped at 65,535, and both move alike. Assumes nothing.
+-- The gauge's counts of rest windows and of cycles are the history's, stopped at 65,535, its cycle drain is the history's, and both move alike.
+-- Assumes nothing.
 use mathlib.Core.Bool.{Bool, true, false, cond}
-use mathlib.Core.Path.{_≡_, refl}
-use Prim.Native.Nat.{ℕ, _≤_, _<_}
+use mathlib.Core.Path.{_≡_, refl, ap, _∙_}
+use Prim.Native.Nat.{ℕ, _+_, _*_, _/_, _%_, _≤_, _<_, min}
 use native.Mathlib.Omega.{arith}
 use lib.Dec.{eqb, leb, ltb}
-use lib.IntN.{ℤ}
+use lib.IntN.{ℤ, pos, negsuc}
 use borrow.Author.Tests.{le-ltb, leb-true, leb-false, lt-ltb}
 use Rattle.command.specs.declared.command.Command.{Command}
 use Rattle.command.specs.declared.command.Command.the-variants.{Wrtnac, Done, Prst, Frst, Wrtlmd}
 use Rattle.counters.specs.Counters.{countersMoved, countersObeyed, countersRested, openedCounters}
+use Rattle.counters.specs.Cycles.{cyclesMoved, cyctAfter, drainWith, noCycles}
 use Rattle.counters.specs.Fits.{CountersFit}
 use Rattle.counters.specs.declared.counters.Counters.{Counters}
+use Rattle.counters.proofs.CyclesLaws.{drain-sum}
 use Rattle.estimate.specs.Estimate.{leastRests}
+use Rattle.grains.specs.Grains.{grainsOfCounts, grainsOfCurrent, mostDrain}
 use Rattle.numbers.specs.Signed.{magnitude}
 use Rattle.refusals.specs.Refusal as Refusal
+use Rattle.sample.specs.Current.{discharge}
 use Rattle.sample.specs.Range.{currentOf}
-use Rattle.history.specs.Counts.{Counts, countsAfterRest, countsAfterWindow, restCount}
+use Rattle.history.specs.Counts.{Counts, countsAfterRest, countsAfterWindow, cycleCount, discharged, restCount}
 use Rattle.history.specs.History.{afterCommand, openedHistory}
 use Rattle.history.specs.Kept.{History}
+use Rattle.history.specs.Sums.{grainsACount}
+use Rattle.history.proofs.WindowTracks.{no-outflow}
 
 pub record CountTracks (y : Counters) (x : Counts) : Type 0 where
   pub rests : y .rests ≡ restCount x
+  pub cycles : y .cycles .cyct ≡ cycleCount x
+  pub drain : y .cycles .drain ≡ x .drain
 
-pub begun-counts : (y : Counters) → CountersFit y → CountTracks y (record { rests = y .rests })
-begun-counts y f = let h = f .rests in record { rests = omega arith }
+pub begun-counts : (y : Counters) → CountersFit y → CountTracks y (record { rests = y .rests; cycles = y .cycles .cyct; drain = y .cycles .drain })
+begun-counts y f =
+    let h = f .rests in
+    let k = f .cyct in
+    record { rests = omega arith; cycles = omega arith; drain = refl }
+
+-- ---- a window
+
+-- what is discharged is the same for both
+outflow-is : (c : ℤ) → grainsOfCurrent (discharge (currentOf c)) ≡ discharged c
+unfolding discharge
+outflow-is (pos n) = ap grainsOfCurrent (no-outflow n)
+outflow-is (negsuc n) = refl
+
+outflow-within : (c : ℤ) → magnitude c ≤ 65_535 → discharge (currentOf c) ≤ 65_535
+unfolding discharge
+outflow-within (pos n) h = let e = no-outflow n in omega arith
+outflow-within (negsuc n) h = h
+
+kept-alike : (t : Bool) {a : ℕ} (x : Counts) → a ≡ restCount x → cond t a 0 ≡ min (cond t (x .rests) 0) 65_535
+kept-alike true x e = e
+kept-alike false x e = refl
 
 module _ (y : Counters) (x : Counts) (k : CountTracks y x) where
   pub rest-counts : (n : ℕ) → CountTracks (countersRested n y) (countsAfterRest n x)
   unfolding countersRested
-  rest-counts n = let e = k .rests in record { rests = omega arith }
+  rest-counts n = let e = k .rests in record { rests = omega arith; cycles = k .cycles; drain = k .drain }
 
-  pub window-counts : (c : ℤ) → CountTracks (countersMoved (currentOf c) y) (countsAfterWindow c x)
-  unfolding countersMoved
-  window-counts c = go (eqb (magnitude c) 0)
-    where
-      go : (t : Bool) → CountTracks (record { rests = cond t (y .rests) 0 }) (record { rests = cond t (x .rests) 0 })
-      go true = k
-      go false = record { rests = refl }
+  pub window-counts : (l : ℕ) (c : ℤ) → magnitude c ≤ 65_535 → y .cycles .drain < mostDrain
+      → CountTracks (countersMoved l (currentOf c) y) (countsAfterWindow l c x)
+  unfolding countersMoved cyclesMoved cyctAfter
+  window-counts l c small below =
+      let d : drainWith (currentOf c) (y .cycles .drain) ≡ x .drain + discharged c =
+      drain-sum (currentOf c) (y .cycles .drain) below (outflow-within c small)
+      ∙ ap (λ (n : ℕ). y .cycles .drain + n) (outflow-is c) ∙ ap (λ (n : ℕ). n + discharged c) (k .drain) in
+      let q : drainWith (currentOf c) (y .cycles .drain) / grainsOfCounts l ≡ (x .drain + discharged c) / (l * grainsACount) =
+      ap (λ (n : ℕ). n / grainsOfCounts l) d in
+      let e = k .cycles in
+      record {
+        rests = kept-alike (eqb (magnitude c) 0) x (k .rests);
+        cycles = omega arith;
+        drain = ap (λ (n : ℕ). n % grainsOfCounts l) d;
+      }
 
   -- 15 is for both alike
   pub rested-alike : cond (leb leastRests (y .rests)) Refusal.none Refusal.notRested ≡ cond (ltb (x .rests) 422) Refusal.notRested Refusal.none
@@ -57,9 +94,9 @@ module _ (y : Counters) (x : Counts) (k : CountTracks y x) where
 
 pub command-counts : (command : Command) (y : Counters) (x : History) → CountTracks y (x .counts)
     → CountTracks (countersObeyed command y) ((afterCommand command x) .counts)
-unfolding countersObeyed openedCounters afterCommand openedHistory
+unfolding countersObeyed openedCounters noCycles afterCommand openedHistory
 command-counts Wrtnac y x k = k
 command-counts Done y x k = k
-command-counts Prst y x k = record { rests = refl }
-command-counts Frst y x k = record { rests = refl }
+command-counts Prst y x k = record { rests = refl; cycles = k .cycles; drain = k .drain }
+command-counts Frst y x k = record { rests = refl; cycles = refl; drain = refl }
 command-counts Wrtlmd y x k = k

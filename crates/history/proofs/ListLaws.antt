@@ -14,7 +14,8 @@ use Rattle.charge.proofs.ChargeLaws.{RunSound}
 use Rattle.configuration.specs.Configuration.{dmf, ilmd, s0}
 use Rattle.configuration.specs.Terms.{termsOf}
 use Rattle.counters.specs.Counters.{openedCounters}
-use Rattle.counters.proofs.CountersKept.{opened-counters}
+use Rattle.counters.specs.Cycles.{noCycles}
+use Rattle.counters.proofs.CountersKept.{opened-accepted, opened-counters}
 use Rattle.gauge.specs.Accepted.{accepted}
 use Rattle.gauge.specs.Answer.{answered, unlessRejected}
 use Rattle.gauge.specs.Calls.{restAnswer, restInRange, restRefusal, sampleRefusal, windowAnswer, writeAnswer, writeRefusal}
@@ -89,6 +90,8 @@ agrees g x s f =
       lmd = f .tracks .lmd;
       run = f .tracks .run;
       rests = f .counts .rests;
+      cycles = f .counts .cycles;
+      drain = f .counts .drain;
       refused = λ call. numbers-alike call g x (sound-accepted g (s .sound)) f;
       never = λ call e.
           let n = numbers-alike call g x (sound-accepted g (s .sound)) f in
@@ -153,6 +156,7 @@ opened-stands c bytes e =
         charge = b .sound;
         standby = opened-standby (s0 c);
         sample = no-sample (dmf c);
+        counters = opened-accepted;
       };
       lmd = b .lmd;
       host = opened-fits c (bytes 6);
@@ -168,7 +172,7 @@ opened-answer c e = rw e
 
 -- the opened history is the one that begins at the opened gauge, MODE and AR too
 pub opened-begun : (c : List ℕ) → openedHistory c ≡ begun (opened c)
-unfolding openedHistory begun opened openedCharge openedHost openedCounters
+unfolding openedHistory begun opened openedCharge openedHost openedCounters noCycles
 opened-begun c = refl
 
 pub demand-3 : Demand3

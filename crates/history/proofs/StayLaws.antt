@@ -1,15 +1,16 @@
--- What is accepted stays accepted: each call leaves a charge, a sample, an SI, MODE and AR that 14 does not refuse and that fit their
+-- What is accepted stays accepted: each call leaves a charge, a sample, an SI, MODE, AR and counters that 14 does not refuse and that fit their
 -- widths; a refused call leaves the gauge. Assumes nothing.
 use mathlib.Core.Bool.{Bool, true, false, cond}
 use mathlib.Core.Path.{_≡_, refl}
 use Prim.Native.Nat.{ℕ, _<_}
+use native.Mathlib.Omega.{arith}
 use lib.Dec.{eqb}
 use lib.IntN.{ℤ}
 use borrow.Author.Tests.{eqb-true}
 use Rattle.command.specs.Command.{decide}
 use Rattle.configuration.specs.Configuration.{dmf, s0, sd}
 use Rattle.configuration.specs.Terms.{termsOf}
-use Rattle.counters.proofs.CountersKept.{moved-fits, rested-fits}
+use Rattle.counters.proofs.CountersKept.{moved-accepted, moved-fits, rested-accepted, rested-fits}
 use Rattle.gauge.specs.Accepted.{accepted}
 use Rattle.gauge.specs.Answer.{answered, unlessRejected}
 use Rattle.gauge.specs.Calls.{restAnswer, restInRange, restRefusal, sampleRefusal, storedAt, windowAnswer, writeAnswer, writeRefusal, written}
@@ -53,10 +54,11 @@ module _ (g : Gauge) (s : Standing g) where
           charge = b .sound;
           standby = averaged-kept (s0 c) (g .standby) (discharge i) (s .sound .standby);
           sample = window-sample (dmf c) a v t (r .current) (r .voltage) (r .temperature);
+          counters = moved-accepted (g .charge .lmd) i (g .counters) (s .sound .charge .learned) (let l = s .lmd in omega arith);
         };
         lmd = b .lmd;
         host = full-fits _ (g .host) (s .host);
-        counters = moved-fits (g .counters) (s .counters) i;
+        counters = moved-fits (g .counters) (s .counters) (g .charge .lmd) i;
       }
 
   pub rest-stands : (n : ℕ) (t : ℤ) → temperatureInRange t ≡ true → Standing (rest n (temperature t) g)
@@ -71,10 +73,11 @@ module _ (g : Gauge) (s : Standing g) where
           charge = b .sound;
           standby = s .sound .standby;
           sample = rest-sample (dmf c) (g .sample) t (s .sound .sample) r;
+          counters = rested-accepted (g .counters) (s .sound .counters) n;
         };
         lmd = b .lmd;
         host = s .host;
-        counters = rested-fits n (g .counters);
+        counters = rested-fits (g .counters) (s .counters) n;
       }
 
   stored-stands : (address value : ℕ) → value < 256 → Standing (storedAt address value g)
@@ -87,6 +90,7 @@ module _ (g : Gauge) (s : Standing g) where
           charge = s .sound .charge;
           standby = s .sound .standby;
           sample = s .sound .sample;
+          counters = s .sound .counters;
         };
         lmd = s .lmd;
         host = stored-fits address value (g .host) small (s .host);

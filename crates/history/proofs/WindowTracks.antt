@@ -33,7 +33,7 @@ use Rattle.history.proofs.VoltageTracks.{voltage-tracks}
 
 -- ---- a window with c not below 0 reaches no voltage, in the gauge and in the history
 
-no-outflow : (n : ℕ) → discharge (currentOf (pos n)) ≡ 0
+pub no-outflow : (n : ℕ) → discharge (currentOf (pos n)) ≡ 0
 unfolding discharge
 no-outflow n = go (ltb 0 n) refl
   where

@@ -1,26 +1,52 @@
 -- What the history counts beside the charge. A4 of paper 02: "rest windows since the last window with c not 0 or since opening or a reset,
--- stopping at 65,535". It counts them all and stops where the count is asked for. Definitions only; assumes nothing.
+-- stopping at 65,535"; A5: cycles, and the drain that they are counted from. It counts them all and stops where a count is asked for.
+-- Definitions only; assumes nothing.
 use mathlib.Core.Bool.{cond}
-use Prim.Native.Nat.{ℕ, _+_, min}
+use Prim.Native.Nat.{ℕ, suc, _+_, _*_, _/_, _%_, min}
 use lib.Dec.{eqb}
-use lib.IntN.{ℤ}
+use lib.IntN.{ℤ, pos, negsuc}
 use Rattle.numbers.specs.Signed.{magnitude}
+use Rattle.history.specs.Sums.{grainsACount, grainsAUnit}
 
 pub record Counts : Type 0 where
   -- "rest windows since"
   pub rests : ℕ
+  -- cycles "for every whole LMD × G"
+  pub cycles : ℕ
+  -- "the surplus is carried over", grains
+  pub drain : ℕ
 
--- "since opening or a reset"
+-- "since opening or a reset"; FRST "clears both"
 abbrev pub noCounts : Counts
-noCounts = record { rests = 0 }
+noCounts = record { rests = 0; cycles = 0; drain = 0 }
 
--- "since the last window with c not 0"
-abbrev pub countsAfterWindow : ℤ → Counts → Counts
-countsAfterWindow c x = record { rests = cond (eqb (magnitude c) 0) (x .rests) 0 }
+-- "its counted discharge", grains: nothing of it is lost below empty, and a leak is none
+abbrev pub discharged : ℤ → ℕ
+discharged (pos n) = 0
+discharged (negsuc n) = grainsAUnit * suc n
 
+-- "since the last window with c not 0"; "each window call .. adds its counted discharge to a drain, and one more cycle for every whole LMD × G in
+-- it", L being that before the window
+abbrev pub countsAfterWindow : ℕ → ℤ → Counts → Counts
+countsAfterWindow l c x =
+    record {
+      rests = cond (eqb (magnitude c) 0) (x .rests) 0;
+      cycles = x .cycles + (x .drain + discharged c) / (l * grainsACount);
+      drain = (x .drain + discharged c) % (l * grainsACount);
+    }
+
+-- "no rest" adds to the drain
 abbrev pub countsAfterRest : ℕ → Counts → Counts
-countsAfterRest n x = record { rests = x .rests + n }
+countsAfterRest n x = record { rests = x .rests + n; cycles = x .cycles; drain = x .drain }
+
+-- "PRST keeps both", the cycles and the drain
+abbrev pub countsAfterPrst : Counts → Counts
+countsAfterPrst x = record { rests = 0; cycles = x .cycles; drain = x .drain }
 
 -- "stopping at 65,535"
 abbrev pub restCount : Counts → ℕ
 restCount x = min (x .rests) 65_535
+
+-- "CYCT stops at 65,535"
+abbrev pub cycleCount : Counts → ℕ
+cycleCount x = min (x .cycles) 65_535

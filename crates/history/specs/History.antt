@@ -18,7 +18,7 @@ use Rattle.numbers.specs.Signed.{atLeastZero}
 use Rattle.refusals.specs.Refusal as Refusal
 use Rattle.history.specs.Account.{afterRest, afterWindow, fixing, withRun}
 use Rattle.history.specs.Call.{Call, window, rest, write, read, preview, estimate}
-use Rattle.history.specs.Counts.{countsAfterRest, countsAfterWindow, noCounts}
+use Rattle.history.specs.Counts.{countsAfterPrst, countsAfterRest, countsAfterWindow, noCounts}
 use Rattle.history.specs.Kept.{History, withAccount, withCounts, withHost}
 use Rattle.history.specs.Refused.{refusalOf}
 use Rattle.history.specs.Sums.{chargeOf, grainsACount}
@@ -44,13 +44,14 @@ hostAfter address value host =
     (record { mode = host .mode; ar = host .ar % 256 + 256 * value }))
 
 -- "WRTNAC fixes H at min(AR, L) × G; WRTLMD sets L to AR and fixes H at min(H, L × G); both end a run. DONE fixes H at L × G and starts
--- a run with R 0. FRST starts the history anew. PRST ends a run and puts MODE and AR as opened." Either reset clears the count of rest windows.
+-- a run with R 0. FRST starts the history anew. PRST ends a run and puts MODE and AR as opened." Either reset clears the count of rest windows;
+-- "PRST keeps both and FRST clears both", cycles and drain (A5 of paper 02).
 unfoldable pub afterCommand : Command → History → History
 afterCommand Wrtnac x =
     withAccount (fixing (min (x .host .ar) (x .account .learned) * grainsACount) (x .account .learned) none) x
 afterCommand Done x = withAccount (fixing (x .account .learned * grainsACount) (x .account .learned) (some 0)) x
 afterCommand Prst x =
-    withCounts noCounts (withHost ((openedHistory (x .configuration)) .host) (withAccount (withRun none (x .account)) x))
+    withCounts (countsAfterPrst (x .counts)) (withHost ((openedHistory (x .configuration)) .host) (withAccount (withRun none (x .account)) x))
 afterCommand Frst x = openedHistory (x .configuration)
 afterCommand Wrtlmd x =
     withAccount (fixing (min (atLeastZero (chargeOf (x .account .sums))) (x .host .ar * grainsACount)) (x .host .ar) none) x
@@ -72,7 +73,7 @@ afterWrite address value x =
 
 unfoldable pub afterWork : Call → History → History
 afterWork (window a v t) x =
-    withCounts (countsAfterWindow (countedCurrent (termsOf (x .configuration)) a) (x .counts))
+    withCounts (countsAfterWindow (x .account .learned) (countedCurrent (termsOf (x .configuration)) a) (x .counts))
     (withAccount (afterWindow (termsOf (x .configuration)) (countedCurrent (termsOf (x .configuration)) a) v t (x .account)) x)
 afterWork (rest n t) x =
     withCounts (countsAfterRest n (x .counts)) (withAccount (afterRest (termsOf (x .configuration)) n t (x .account)) x)

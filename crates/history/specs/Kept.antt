@@ -11,7 +11,7 @@ pub record History : Type 0 where
   pub account : Account
   -- "MODE and AR"
   pub host : Host
-  -- rest windows (A4 of paper 02)
+  -- rest windows (A4 of paper 02), cycles and their drain (A5)
   pub counts : Counts
 
 abbrev pub withAccount : Account → History → History

@@ -1,98 +1,139 @@
--- Bytes of every form: which form their first byte tells, and how bytes of an older form are read in the places of the newest and carried over.
+-- Bytes of every form: how those of an older form are read in the places of the newest and carried over, by the form that their first byte tells.
 -- Assumes nothing.
-use mathlib.Core.Bool.{Bool, true, false, _&&_}
-use mathlib.Core.List.{List}
+use mathlib.Core.Bool.{Bool, true, false, _&&_, cond}
+use mathlib.Core.List.{List, [], _∷_, _++_}
 use mathlib.Core.Path.{_≡_, refl, sym, ap, _∙_}
-use Prim.Native.Nat.{ℕ, _*_, _≤_}
+use Prim.Native.Nat.{ℕ, _≤_}
 use native.Mathlib.Omega.{arith}
 use lib.Dec.{eqb}
 use lib.ListN.{getD, length}
-use borrow.Author.Tests.{eq-eqb, eqb-true, ne-eqb}
+use borrow.Author.Tests.{eqb-true}
 use Rattle.configuration.specs.Configuration.{s0}
-use Rattle.counters.proofs.CountersLaws.{countersOf}
-use Rattle.form.specs.Form.{Rests, form1, form2, lengthOf, newest, placeOf, savedLength, widthOf}
+use Rattle.form.specs.Form.{Configuration, CycleDrain, Cyct, Field, Form, Name, Rests, Sixteenths, _takes_, form1, form2, form3, has, lengthOf}
+use Rattle.form.specs.Form.{newest, numberOf, placeOf, savedLength, widthOf}
+use Rattle.form.proofs.BegunLaws.{bytes-begun, number-begun}
 use Rattle.gauge.specs.Parts.{gaugeOf}
 use Rattle.gauge.specs.declared.state.Gauge.{Gauge}
-use Rattle.gauge.proofs.GaugeLaws.{gauge-is}
+use Rattle.numbers.specs.Little.{bytesAt, numberAt}
 use Rattle.numbers.proofs.BoolLaws.{and-both, and-false, and-left}
-use Rattle.numbers.proofs.LittleLaws.{past-the-end}
-use Rattle.load.specs.EveryForm.{loadAnswer}
+use Rattle.standby.specs.Standby.{sixteenths}
+use Rattle.load.specs.EveryForm.{carriedStandby, heldFits, inUnits, loadAnswer, told, toldLength}
 use Rattle.load.specs.Load.{answerIn, fitsAs, formFits, loaded, loadedCharge, loadedCounters, loadedHost, loadedSample, standbyFits, unitsFit}
+use Rattle.load.proofs.LoadLaws.{fields-alike}
 
--- ---- which form it is
+-- ---- forms that the newest begins with
 
-module _ (bytes : List ℕ) where
-  pub in-form-1 : getD bytes 0 0 ≡ 1 → answerIn form1 bytes ≡ loadAnswer bytes
+module _ (form : Form) (more : List Field) (e : newest .fields ≡ form .fields ++ more) (bytes : List ℕ) (l : length bytes ≡ lengthOf (form .fields)) where
+  field-begun : (n : Name) → numberOf n newest bytes ≡ numberOf n form bytes
+  field-begun n = ap (λ (fs : List Field). numberAt (widthOf n fs) (placeOf n fs) bytes) e ∙ number-begun n more (form .fields) bytes l
+
+  loaded-begun : has Configuration (form .fields) ≡ true → has Sixteenths (newest .fields) ≡ has Sixteenths (form .fields)
+      → loaded newest bytes ≡ loaded form bytes
+  loaded-begun c s =
+      fields-alike newest form bytes bytes field-begun
+      (ap (λ (fs : List Field). bytesAt (widthOf Configuration fs) (placeOf Configuration fs) bytes) e ∙ bytes-begun Configuration more (form .fields) bytes c)
+      s
+
+-- ---- what reading bytes of a form in the newest form's places asks
+
+-- a gauge with another SI
+abbrev withStandby : ℕ → Gauge → Gauge
+withStandby standby g = gaugeOf (g .configuration) (g .charge) (g .sample) standby (g .flags) (g .host) (g .counters)
+
+-- SI in units is held to its limit and multiplied, any other is taken as it is
+record ReadInNewest (form : Form) (units : Bool) : Type 0 where
+  shorter : lengthOf (form .fields) ≤ savedLength
+  fits : (bytes : List ℕ)
+      → fitsAs (form .number) (lengthOf (form .fields)) form bytes ≡ fitsAs (form .number) (lengthOf (form .fields)) newest bytes
+  held : (bytes : List ℕ) → cond units (unitsFit (s0 ((loaded newest bytes) .configuration)) ((loaded newest bytes) .standby)) true ≡ standbyFits form bytes
+  gauge : (bytes : List ℕ) → length bytes ≡ lengthOf (form .fields)
+      → withStandby (cond units (sixteenths ((loaded newest bytes) .standby)) ((loaded newest bytes) .standby)) (loaded newest bytes) ≡ loaded form bytes
+
+newest-read : ReadInNewest newest false
+newest-read = record { shorter = omega arith; fits = λ bytes. refl; held = λ bytes. refl; gauge = λ bytes l. refl }
+
+form-3-read : ReadInNewest form3 false
+form-3-read =
+    record {
+      shorter = omega arith;
+      fits = λ bytes. refl;
+      held = λ bytes. refl;
+      gauge = λ bytes l. loaded-begun form3 (Cyct takes 2 ∷ CycleDrain takes 8 ∷ []) refl bytes l refl refl;
+    }
+
+form-2-read : ReadInNewest form2 false
+form-2-read =
+    record {
+      shorter = omega arith;
+      fits = λ bytes. refl;
+      held = λ bytes. refl;
+      gauge = λ bytes l. loaded-begun form2 (Rests takes 2 ∷ Cyct takes 2 ∷ CycleDrain takes 8 ∷ []) refl bytes l refl refl;
+    }
+
+-- form 1 has form 2's places and length
+form-1-read : ReadInNewest form1 true
+unfolding loaded loadedCharge loadedSample loadedHost loadedCounters
+form-1-read =
+    record {
+      shorter = omega arith;
+      fits = λ bytes. refl;
+      held = λ bytes. refl;
+      gauge = λ bytes l. ap (λ (x : Gauge). withStandby (sixteenths (x .standby)) x) (form-2-read .gauge bytes l);
+    }
+
+each-form : (first : ℕ) → ReadInNewest (told first) (inUnits first)
+each-form first = go (eqb first 1) (eqb first 2) (eqb first 3)
+  where
+    go : (t u v : Bool) → ReadInNewest (cond t form1 (cond u form2 (cond v form3 newest))) t
+    go true u v = form-1-read
+    go false true v = form-2-read
+    go false false true = form-3-read
+    go false false false = newest-read
+
+pub told-shorter : (first : ℕ) {long : ℕ} → long ≡ toldLength first → long ≤ savedLength
+told-shorter first e = let h = each-form first .shorter in omega arith
+
+-- ---- the ways of a load, by what each callee gives
+
+module _ (bytes : List ℕ) {first number long : ℕ} {fit : Bool} (e : first ≡ getD bytes 0 0) (n : number ≡ (told first) .number)
+    (l : long ≡ toldLength first) (f : fit ≡ fitsAs number long newest bytes) where
+  read : ReadInNewest (told first) (inUnits first)
+  read = each-form first
+
+  pub is-told : answerIn (told first) bytes ≡ loadAnswer bytes
   unfolding loadAnswer
-  in-form-1 e = simp (eq-eqb (getD bytes 0 0) 1 e)
+  is-told = ap (λ (k : ℕ). answerIn (told k) bytes) e
 
-  pub in-form-2 : (getD bytes 0 0 ≡ 1 → ⊥) → getD bytes 0 0 ≡ 2 → answerIn form2 bytes ≡ loadAnswer bytes
-  unfolding loadAnswer
-  in-form-2 n e = simp (ne-eqb (getD bytes 0 0) 1 n, eq-eqb (getD bytes 0 0) 2 e)
+  fit-is : fit ≡ fitsAs ((told first) .number) (toldLength first) (told first) bytes
+  unfolding read
+  fit-is =
+      f ∙ ap (λ (k : ℕ). fitsAs k long newest bytes) n ∙ ap (λ (k : ℕ). fitsAs ((told first) .number) k newest bytes) l ∙ sym (read .fits bytes)
 
-  pub in-newest : (getD bytes 0 0 ≡ 1 → ⊥) → (getD bytes 0 0 ≡ 2 → ⊥) → answerIn newest bytes ≡ loadAnswer bytes
-  unfolding loadAnswer
-  in-newest n m = simp (ne-eqb (getD bytes 0 0) 1 n, ne-eqb (getD bytes 0 0) 2 m)
-
--- ---- forms 1 and 2, which end before the count of rest windows
-
-abbrev endOf2 : ℕ
-endOf2 = lengthOf (form2 .fields)
-
-module _ (bytes : List ℕ) where
-  -- the length of bytes that fit
-  fits-length : (number : ℕ) → fitsAs number endOf2 newest bytes ≡ true → length bytes ≡ endOf2
-  fits-length number f = eqb-true (length bytes) endOf2 (and-left (eqb (length bytes) endOf2) _ f)
-
-  pub shorter : (number : ℕ) → fitsAs number endOf2 newest bytes ≡ true → length bytes ≤ savedLength
-  shorter number f = let l = fits-length number f in omega arith
-
-  -- "older forms read as 0": past their end
-  no-count : length bytes ≡ endOf2 → loadedCounters newest bytes ≡ countersOf 0
-  unfolding loadedCounters
-  no-count l = ap countersOf (past-the-end (widthOf Rests (newest .fields)) (placeOf Rests (newest .fields)) bytes (omega arith))
-
-  module _ {g : Gauge} (p : g ≡ loaded newest bytes) where
-    no-count-in : length bytes ≡ endOf2 → g .counters ≡ countersOf 0
-    unfolding loaded
-    no-count-in l = ap (λ (x : Gauge). x .counters) p ∙ no-count l
-
-    -- ---- form 2
-
-    pub carried-2 : fitsAs (form2 .number) endOf2 newest bytes ≡ true → g ≡ loaded form2 bytes
-    unfolding loaded loadedCharge loadedSample loadedHost loadedCounters
-    carried-2 f =
-        gauge-is refl refl refl refl refl (no-count-in (fits-length (form2 .number) f))
-        ∙ ap (λ (x : Gauge). gaugeOf (x .configuration) (x .charge) (x .sample) (x .standby) (x .flags) (x .host) (countersOf 0)) p
-
-    -- ---- form 1
-
-    units-is : unitsFit (s0 (g .configuration)) (g .standby) ≡ standbyFits form1 bytes
-    unfolding loaded
-    units-is = ap (λ (x : Gauge). unitsFit (s0 (x .configuration)) (x .standby)) p
-
-    pub units-misfit-1 : unitsFit (s0 (g .configuration)) (g .standby) ≡ false → formFits form1 bytes ≡ false
-    unfolding formFits
-    units-misfit-1 u = ap (λ (t : Bool). t && fitsAs (form1 .number) endOf2 form1 bytes) (sym units-is ∙ u)
-
-    pub fits-1 : fitsAs (form1 .number) endOf2 newest bytes ≡ true → unitsFit (s0 (g .configuration)) (g .standby) ≡ true
-        → formFits form1 bytes ≡ true
-    unfolding formFits
-    fits-1 f u = and-both (standbyFits form1 bytes) (fitsAs (form1 .number) endOf2 form1 bytes) (sym units-is ∙ u) f
-
-    -- "multiplied by 16"
-    pub carried-1 : fitsAs (form1 .number) endOf2 newest bytes ≡ true
-        → gaugeOf (g .configuration) (g .charge) (g .sample) (16 * g .standby) (g .flags) (g .host) (g .counters) ≡ loaded form1 bytes
-    unfolding loaded loadedCharge loadedSample loadedHost loadedCounters
-    carried-1 f =
-        gauge-is refl refl refl refl refl (no-count-in (fits-length (form1 .number) f))
-        ∙ ap (λ (x : Gauge). gaugeOf (x .configuration) (x .charge) (x .sample) (16 * x .standby) (x .flags) (x .host) (countersOf 0)) p
-
-  pub misfit-1 : fitsAs (form1 .number) endOf2 newest bytes ≡ false → formFits form1 bytes ≡ false
+  pub misfit : fit ≡ false → formFits (told first) bytes ≡ false
   unfolding formFits
-  misfit-1 f = ap (λ (t : Bool). standbyFits form1 bytes && t) f ∙ and-false (standbyFits form1 bytes)
+  misfit z =
+      ap (λ (t : Bool). standbyFits (told first) bytes && t) (sym fit-is ∙ z) ∙ and-false (standbyFits (told first) bytes)
 
-  -- form 2 has no SI in units
-  pub fit-2 : {r : Bool} → fitsAs (form2 .number) endOf2 newest bytes ≡ r → formFits form2 bytes ≡ r
-  unfolding formFits
-  fit-2 f = f
+  module _ (good : fit ≡ true) where
+    pub fit-length : length bytes ≡ toldLength first
+    fit-length = eqb-true (length bytes) (toldLength first) (and-left (eqb (length bytes) (toldLength first)) _ (sym fit-is ∙ good))
+
+    module _ {g : Gauge} {held : Bool} (p : g ≡ loaded newest bytes) (h : held ≡ heldFits first (s0 (g .configuration)) (g .standby)) where
+      held-is : held ≡ standbyFits (told first) bytes
+      unfolding read heldFits
+      held-is = h ∙ ap (λ (x : Gauge). heldFits first (s0 (x .configuration)) (x .standby)) p ∙ read .held bytes
+
+      pub held-misfit : held ≡ false → formFits (told first) bytes ≡ false
+      unfolding formFits
+      held-misfit z = ap (λ (t : Bool). t && fitsAs ((told first) .number) (toldLength first) (told first) bytes) (sym held-is ∙ z)
+
+      pub both-fit : held ≡ true → formFits (told first) bytes ≡ true
+      unfolding formFits
+      both-fit t =
+          and-both (standbyFits (told first) bytes) (fitsAs ((told first) .number) (toldLength first) (told first) bytes) (sym held-is ∙ t)
+          (sym fit-is ∙ good)
+
+      pub carried : {s : ℕ} → s ≡ carriedStandby first (g .standby) → withStandby s g ≡ loaded (told first) bytes
+      unfolding read carriedStandby
+      carried c =
+          ap (λ (k : ℕ). withStandby k g) c ∙ ap (λ (x : Gauge). withStandby (carriedStandby first (x .standby)) x) p ∙ read .gauge bytes fit-length

@@ -1,20 +1,18 @@
 -- Bytes with zeros behind them hold what they hold without: past the end of bytes every one reads as 0. Assumes nothing.
+use mathlib.Core.Bool.{Bool, true, false, cond}
 use mathlib.Core.List.{List, [], _∷_, _++_}
-use mathlib.Core.Path.{_≡_, refl, ap, _∙_}
+use mathlib.Core.Path.{_≡_, refl, sym, ap, _∙_}
 use Prim.Native.Nat.{ℕ, zero, suc, _+_, _-_, _≤_}
 use native.Mathlib.Omega.{arith}
+use lib.Dec.{eqb}
 use lib.ListN.{drop, getD, length, length-append, length-drop, replicate, take}
 use lib.Seq.{getD-drop, take-length}
-use Rattle.counters.proofs.CountersLaws.{countersOf}
-use Rattle.flags.specs.Byte.{flagsOf, vdqOf}
-use Rattle.form.specs.Form.{Ar, Configuration, Current, Dcr, Flags, Held, Lmd, Mode, Name, Rests, Sixteenths, Temperature, Voltage}
-use Rattle.form.specs.Form.{newest, numberOf, placeOf, savedLength, widthOf}
-use Rattle.form.specs.Signed.{currentOf}
+use Rattle.form.specs.Form.{Configuration, Name, form1, form2, form3, lengthOf, newest, numberOf, placeOf, savedLength, widthOf}
 use Rattle.gauge.specs.declared.state.Gauge.{Gauge}
-use Rattle.gauge.proofs.GaugeLaws.{gauge-alike}
 use Rattle.numbers.specs.Little.{bytesAt, numberAt}
-use Rattle.load.specs.Load.{decodedGauge, loaded, loadedCharge, loadedCounters, loadedHost, loadedSample}
-use Rattle.load.proofs.LoadLaws.{charge-alike, decoded-whole, host-alike, sample-alike}
+use Rattle.load.specs.EveryForm.{lengthened, toldLength}
+use Rattle.load.specs.Load.{decodedGauge, loaded}
+use Rattle.load.proofs.LoadLaws.{decoded-whole, fields-alike}
 
 -- ---- bytes that are the same at every place
 
@@ -35,12 +33,8 @@ module _ (a b : List ℕ) (same : (k : ℕ) → getD a k 0 ≡ getD b k 0) where
   field-same n = number-same (widthOf n (newest .fields)) (placeOf n (newest .fields))
 
   loaded-same : loaded newest a ≡ loaded newest b
-  unfolding loaded loadedCharge loadedSample loadedHost loadedCounters
   loaded-same =
-      gauge-alike (bytes-same (widthOf Configuration (newest .fields)) (placeOf Configuration (newest .fields)))
-      (charge-alike (field-same Held) (field-same Lmd) (ap vdqOf (field-same Flags)) (field-same Dcr))
-      (sample-alike (ap currentOf (field-same Current)) (field-same Voltage) (field-same Temperature))
-      (field-same Sixteenths) (ap flagsOf (field-same Flags)) (host-alike (field-same Mode) (field-same Ar)) (ap countersOf (field-same Rests))
+      fields-alike newest newest a b field-same (bytes-same (widthOf Configuration (newest .fields)) (placeOf Configuration (newest .fields))) refl
 
 -- ---- zeros behind them
 
@@ -68,9 +62,31 @@ module _ (bytes : List ℕ) (l : length bytes ≤ savedLength) where
       length-append bytes zeros ∙ ap (λ (n : ℕ). length bytes + n) (length-drop (length bytes) (replicate savedLength 0))
       ∙ (let e : length bytes + (savedLength - length bytes) ≡ savedLength = omega arith in e)
 
-  pub lengthened-holds : {whole : List ℕ} {g : Gauge} → whole ≡ take (length bytes) bytes ++ drop (length bytes) (replicate savedLength 0)
-      → g ≡ decodedGauge whole → g ≡ loaded newest bytes
-  unfolding zeros
+  pub lengthened-holds : {whole : List ℕ} {g : Gauge} → whole ≡ lengthened bytes → g ≡ decodedGauge whole → g ≡ loaded newest bytes
+  unfolding lengthened zeros
   lengthened-holds w e =
-      e ∙ ap decodedGauge (w ∙ ap (λ (b : List ℕ). b ++ zeros) (take-length bytes)) ∙ decoded-whole (bytes ++ zeros) whole-length
-      ∙ loaded-same (bytes ++ zeros) bytes (behind bytes zeros zeros-are)
+      e ∙ ap decodedGauge w ∙ decoded-whole (bytes ++ zeros) whole-length ∙ loaded-same (bytes ++ zeros) bytes (behind bytes zeros zeros-are)
+
+-- ---- a copy over zeros
+
+-- of a part that is the whole
+pub copied : (bytes : List ℕ) {part whole : List ℕ} → part ≡ bytes
+    → whole ≡ take (length part) part ++ drop (length part) (replicate savedLength 0) → whole ≡ lengthened bytes
+unfolding lengthened
+copied bytes {part} p w =
+    w ∙ ap (λ (b : List ℕ). b ++ drop (length part) (replicate savedLength 0)) (take-length part)
+    ∙ ap (λ (b : List ℕ). b ++ drop (length b) (replicate savedLength 0)) p
+
+pub all-taken : (n : ℕ) (bytes : List ℕ) → length bytes ≡ n → take n bytes ≡ bytes
+all-taken n bytes e = sym (ap (λ (k : ℕ). take k bytes) e) ∙ take-length bytes
+
+-- a form's length is one of three
+pub shortest : (first : ℕ) {long : ℕ} → long ≡ toldLength first → (long ≡ lengthOf (newest .fields) → ⊥) → (long ≡ lengthOf (form3 .fields) → ⊥)
+    → long ≡ lengthOf (form1 .fields)
+shortest first {long} e n m = go (eqb first 1) (eqb first 2) (eqb first 3) e
+  where
+    go : (t u v : Bool) → long ≡ lengthOf ((cond t form1 (cond u form2 (cond v form3 newest))) .fields) → long ≡ lengthOf (form1 .fields)
+    go true u v p = p
+    go false true v p = p
+    go false false true p = absurd (m p)
+    go false false false p = absurd (n p)

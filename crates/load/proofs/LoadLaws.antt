@@ -11,11 +11,12 @@ use borrow.Author.Tests.{eq-eqb, eqb-true, ne-eqb}
 use Rattle.charge.specs.declared.charge.Charge.{Charge}
 use Rattle.flags.specs.Byte.{flagsFit, flagsOf, vdqOf}
 use Rattle.flags.specs.declared.flags.Flags as Flag
-use Rattle.form.specs.Form.{Ar, Configuration, Current, Dcr, Flags, FormNumber, Held, Lmd, Mode, Rests, Sixteenths, Temperature, Voltage}
-use Rattle.form.specs.Form.{Form, bytesOf, lengthOf, newest, numberOf, placeOf, savedLength}
+use Rattle.form.specs.Form.{Ar, Configuration, Current, CycleDrain, Cyct, Dcr, Flags, FormNumber, Held, Lmd, Mode, Rests, Sixteenths, Standby}
+use Rattle.form.specs.Form.{Form, Name, Temperature, Voltage, bytesOf, has, lengthOf, newest, numberOf, placeOf, savedLength}
 use Rattle.form.specs.Signed.{currentOf}
 use Rattle.counters.specs.declared.counters.Counters.{Counters}
 use Rattle.counters.proofs.CountersLaws.{countersOf}
+use Rattle.counters.proofs.CyclesLaws.{cyclesOf}
 use Rattle.gauge.specs.Accepted.{accepted}
 use Rattle.gauge.specs.Opening.{openAnswer, openRefusal}
 use Rattle.gauge.specs.Parts.{gaugeOf}
@@ -29,7 +30,8 @@ use Rattle.refusals.specs.Refusal as Refusal
 use Rattle.sample.specs.declared.current.Current as Amount
 use Rattle.sample.specs.declared.sample.Sample.{Sample}
 use Rattle.load.specs.Load.{acceptedAnswer, answerIn, decodedGauge, fitsAs, formFits, loaded, loadedCharge, loadedCounters, loadedHost, loadedSample}
-use Rattle.load.specs.Load.{ofLength, rejectedAnswer, standbyFits}
+use Rattle.load.specs.Load.{loadedStandby, ofLength, rejectedAnswer, standbyFits}
+use Rattle.standby.specs.Standby.{sixteenths}
 
 -- ---- records whose parts agree
 
@@ -50,6 +52,25 @@ hostOf mode ar = record { mode = mode; ar = ar }
 
 pub host-alike : {m n a b : ℕ} → m ≡ n → a ≡ b → hostOf m a ≡ hostOf n b
 host-alike p q = cc
+
+pub counters-alike : {m n k l d e : ℕ} → m ≡ n → k ≡ l → d ≡ e → countersOf m (cyclesOf k d) ≡ countersOf n (cyclesOf l e)
+counters-alike p q r = cc
+
+-- bytes of two forms, field by field
+pub fields-alike : (form other : Form) (a b : List ℕ) → ((n : Name) → numberOf n form a ≡ numberOf n other b)
+    → bytesOf Configuration form a ≡ bytesOf Configuration other b → has Sixteenths (form .fields) ≡ has Sixteenths (other .fields)
+    → loaded form a ≡ loaded other b
+unfolding loaded loadedCharge loadedSample loadedHost loadedCounters
+fields-alike form other a b same configuration sixteenth =
+    gauge-alike configuration (charge-alike (same Held) (same Lmd) (ap vdqOf (same Flags)) (same Dcr))
+    (sample-alike (ap currentOf (same Current)) (same Voltage) (same Temperature)) standby (ap flagsOf (same Flags))
+    (host-alike (same Mode) (same Ar)) (counters-alike (same Rests) (same Cyct) (same CycleDrain))
+  where
+    standby : loadedStandby form a ≡ loadedStandby other b
+    standby =
+        ap (λ (t : Bool). cond t (numberOf Sixteenths form a) (sixteenths (numberOf Standby form a))) sixteenth
+        ∙ ap (λ (n : ℕ). cond (has Sixteenths (other .fields)) n (sixteenths (numberOf Standby form a))) (same Sixteenths)
+        ∙ ap (λ (n : ℕ). cond (has Sixteenths (other .fields)) (numberOf Sixteenths other b) (sixteenths n)) (same Standby)
 
 -- ---- what is read
 
@@ -72,9 +93,10 @@ module _ (bytes : List ℕ) where
   unfolding loadedHost
   host-is p q = host-alike (p ∙ sym (one-is (placeOf Mode (newest .fields)) bytes)) q
 
-  pub counters-is : {n : ℕ} → n ≡ numberOf Rests newest bytes → countersOf n ≡ loadedCounters newest bytes
+  pub counters-is : {n k d : ℕ} → n ≡ numberOf Rests newest bytes → k ≡ numberOf Cyct newest bytes → d ≡ numberOf CycleDrain newest bytes
+      → countersOf n (cyclesOf k d) ≡ loadedCounters newest bytes
   unfolding loadedCounters
-  counters-is p = ap countersOf p
+  counters-is p q r = counters-alike p q r
 
   pub gauge-is : {c : List ℕ} {x : Charge} {s : Sample} {i b : ℕ} {f : Flag.Flags} {h : Host} {m : Counters} → c ≡ bytesOf Configuration newest bytes
       → x ≡ loadedCharge newest bytes → s ≡ loadedSample newest bytes → i ≡ numberOf Sixteenths newest bytes

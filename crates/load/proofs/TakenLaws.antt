@@ -1,13 +1,14 @@
 -- Accepted bytes of a form hold gauges of the widths that every gauge has, since no field of any form is wider. Assumes nothing.
 use mathlib.Core.Bool.{Bool, true, _&&_}
-use mathlib.Core.List.{List}
+use mathlib.Core.List.{List, [], _∷_}
 use mathlib.Core.Path.{_≡_, refl, ap, _∙_}
 use Prim.Native.Nat.{ℕ, zero, suc, _<_, _^_}
 use native.Mathlib.Omega.{arith}
-use lib.Dec.{eqb, leb}
+use lib.Dec.{T, eqb, leb}
 use lib.ListN.{getD, length}
 use borrow.Author.Tests.{eqb-true, leb-true}
-use Rattle.form.specs.Form.{Ar, Configuration, Form, Lmd, Mode, Name, Rests, formOf, newest, numberOf, older, placeOf, widthOf}
+use Rattle.form.specs.Form.{Ar, Configuration, CycleDrain, Cyct, Lmd, Mode, Rests}
+use Rattle.form.specs.Form.{Field, Form, _takes_, formOf, newest, numberOf, older, placeOf, widthOf}
 use Rattle.form.proofs.FormsLaws.{allPass, numbered-passes}
 use Rattle.gauge.specs.Accepted.{accepted}
 use Rattle.gauge.specs.Fits.{Taken}
@@ -23,21 +24,24 @@ use Rattle.load.specs.Load.{loaded, loadedCharge, loadedCounters, loaded
 configured : Form → Bool
 configured form = eqb (widthOf Configuration (form .fields)) 10
 
--- each of these numbers that a form has is no wider than the gauge's
-pairs : Form → Bool
-pairs form =
-    leb (widthOf Lmd (form .fields)) 2
-    && (leb (widthOf Ar (form .fields)) 2 && (leb (widthOf Rests (form .fields)) 2 && leb (widthOf Mode (form .fields)) 1))
+-- how wide each of these numbers is in a gauge
+limits : List Field
+limits = Lmd takes 2 ∷ Ar takes 2 ∷ Mode takes 1 ∷ Rests takes 2 ∷ Cyct takes 2 ∷ CycleDrain takes 8 ∷ []
+
+-- each that a form has is no wider
+noWider : List Field → Form → Bool
+noWider [] form = true
+noWider (f ∷ fs) form = leb (widthOf (f .name) (form .fields)) (f .width) && noWider fs form
 
 narrow : Form → Bool
-narrow form = configured form && pairs form
+narrow form = configured form && noWider limits form
 
 newest-narrow : narrow newest ≡ true
-unfolding narrow configured pairs
+unfolding narrow configured noWider limits
 newest-narrow = refl
 
 older-narrow : allPass narrow older ≡ true
-unfolding narrow configured pairs
+unfolding narrow configured noWider limits
 older-narrow = refl
 
 form-narrow : (s : List ℕ) → narrow (formOf s) ≡ true
@@ -56,22 +60,32 @@ at-small (suc width) place s small (suc k) = at-small width (suc place) s small 
 
 -- ---- gauges
 
-module _ (form : Form) (n : narrow form ≡ true) (s : List ℕ) (small : (k : ℕ) → getD s k 0 < 256) where
-  within : (name : Name) (most : ℕ) → leb (widthOf name (form .fields)) most ≡ true → numberOf name form s < 256 ^ most
-  within name most e =
-      number-within most (widthOf name (form .fields)) (placeOf name (form .fields)) s small (leb-true (widthOf name (form .fields)) most e)
+module _ (form : Form) (s : List ℕ) (small : (k : ℕ) → getD s k 0 < 256) where
+  -- each number is below its limit
+  Within : List Field → Type 0
+  Within [] = T true
+  Within (f ∷ fs) = (numberOf (f .name) form s < 256 ^ f .width) × Within fs
 
-  narrow-taken : accepted (loaded form s) ≡ true → Taken (loaded form s)
-  unfolding loaded loadedCharge loadedHost loadedCounters narrow configured pairs
-  narrow-taken good =
+  all-within : (fs : List Field) → noWider fs form ≡ true → Within fs
+  unfolding noWider Within
+  all-within [] e = tt
+  all-within (f ∷ fs) e =
+      let test = leb (widthOf (f .name) (form .fields)) (f .width) in (
+        number-within (f .width) (widthOf (f .name) (form .fields)) (placeOf (f .name) (form .fields)) s small
+            (leb-true (widthOf (f .name) (form .fields)) (f .width) (and-left test (noWider fs form) e)),
+        all-within fs (and-right test (noWider fs form) e),
+      )
+
+  narrow-taken : narrow form ≡ true → accepted (loaded form s) ≡ true → Taken (loaded form s)
+  unfolding loaded loadedCharge loadedHost loadedCounters narrow configured limits Within
+  narrow-taken n good =
       let fields = form .fields in
-      let ten = eqb-true (widthOf Configuration fields) 10 (and-left (configured form) (pairs form) n) in
-      let p = and-right (configured form) (pairs form) n in
-      let q = and-right (leb (widthOf Lmd fields) 2) _ p in
-      let r = and-right (leb (widthOf Ar fields) 2) _ q in
-      let lmd = within Lmd 2 (and-left (leb (widthOf Lmd fields) 2) _ p) in
-      let ar = within Ar 2 (and-left (leb (widthOf Ar fields) 2) _ q) in
-      let mode = within Mode 1 (and-right (leb (widthOf Rests fields) 2) (leb (widthOf Mode fields) 1) r) in
+      let ten = eqb-true (widthOf Configuration fields) 10 (and-left (configured form) (noWider limits form) n) in
+      let w = all-within limits (and-right (configured form) (noWider limits form) n) in
+      let lmd = w .0 in
+      let ar = w .1 .0 in
+      let mode = w .1 .1 .0 in
+      let counted = w .1 .1 .1 in
       taken (loaded form s)
       (record {
         ten = record {
@@ -81,14 +95,14 @@ module _ (form : Form) (n : narrow form ≡ true) (s : List ℕ) (small : (k : �
         sound = sound (loaded form s) good;
         lmd = omega arith;
         host = record { mode = omega arith; ar = omega arith };
-        counters = record { rests = within Rests 2 (and-left (leb (widthOf Rests fields) 2) (leb (widthOf Mode fields) 1) r) };
+        counters = record { rests = counted .0; cyct = counted .1 .0; drain = counted .1 .1 .0 };
       })
 
 -- ---- bytes of any form
 
 module _ (s : List ℕ) (small : (k : ℕ) → getD s k 0 < 256) where
   pub form-taken : accepted (loaded (formOf s) s) ≡ true → Taken (loaded (formOf s) s)
-  form-taken good = narrow-taken (formOf s) (form-narrow s) s small good
+  form-taken good = narrow-taken (formOf s) s small (form-narrow s) good
 
   pub newest-taken : accepted (loaded newest s) ≡ true → Taken (loaded newest s)
-  newest-taken good = narrow-taken newest newest-narrow s small good
+  newest-taken good = narrow-taken newest s small newest-narrow good

@@ -9,7 +9,8 @@ use Rattle.charge.specs.declared.charge.Charge.{Charge}
 use Rattle.configuration.specs.Configuration.{s0}
 use Rattle.counters.specs.declared.counters.Counters.{Counters}
 use Rattle.flags.specs.Byte.{flagsFit, flagsOf, vdqOf}
-use Rattle.form.specs.Form.{Ar, Configuration, Current, Dcr, Flags, FormNumber, Held, Lmd, Mode, Rests, Sixteenths, Standby, Temperature, Voltage}
+use Rattle.form.specs.Form.{Ar, Configuration, Current, CycleDrain, Cyct, Dcr, Flags, FormNumber, Held, Lmd, Mode, Rests, Sixteenths, Standby}
+use Rattle.form.specs.Form.{Temperature, Voltage}
 use Rattle.form.specs.Form.{Form, bytesOf, has, lengthOf, newest, numberOf, savedLength}
 use Rattle.form.specs.Signed.{currentOf}
 use Rattle.gauge.specs.Accepted.{accepted}
@@ -46,9 +47,13 @@ loadedHost form bytes = record { mode = numberOf Mode form bytes; ar = numberOf 
 abbrev pub loadedStandby : Form → List ℕ → ℕ
 loadedStandby form bytes = cond (has Sixteenths (form .fields)) (numberOf Sixteenths form bytes) (sixteenths (numberOf Standby form bytes))
 
--- "older forms read as 0" (A4 of paper 02), which a field that a form has not is
+-- "older forms read as 0" (A4 of paper 02), "older forms read as 0 in both" (A5): a field that a form has not is 0
 unfoldable pub loadedCounters : Form → List ℕ → Counters
-loadedCounters form bytes = record { rests = numberOf Rests form bytes }
+loadedCounters form bytes =
+    record {
+      rests = numberOf Rests form bytes;
+      cycles = record { cyct = numberOf Cyct form bytes; drain = numberOf CycleDrain form bytes };
+    }
 
 unfoldable pub loaded : Form → List ℕ → Gauge
 loaded form bytes =

@@ -4,12 +4,15 @@ ghost use Rattle.form.specs.Form.{newest};
 ghost use Rattle.load.specs.Load as Spec;
 use charge::charge::Charge;
 use counters::counters::Counters;
+use counters::cycles::Cycles;
 use flags::byte::flags_fit;
 use flags::byte::flags_of;
 use flags::byte::vdq_of;
 use form::form::AT_AR;
 use form::form::AT_CONFIGURATION;
 use form::form::AT_CURRENT;
+use form::form::AT_CYCLE_DRAIN;
+use form::form::AT_CYCT;
 use form::form::AT_DCR;
 use form::form::AT_FLAGS;
 use form::form::AT_FORM;
@@ -72,7 +75,10 @@ fn loaded_counters(bytes: &[u8]) -> Counters
     ensures { λ r. ⌜ r ≡ Spec.loadedCounters newest (now (bytes .entry)) ⌝ }
 {
     let rests = two_at(bytes, AT_RESTS);
-    Counters { rests }
+    let cyct = two_at(bytes, AT_CYCT);
+    let drain = eight_at(bytes, AT_CYCLE_DRAIN);
+    let cycles = Cycles { cyct, drain };
+    Counters { rests, cycles }
 }
 
 // What the bytes hold, accepted or not; a byte past their end is 0.

@@ -59,17 +59,17 @@ configuration-shown g {pair} from to p =
 -- ---- the pairs that no row covers, by one test that is computed
 
 zeroUnlessCovered : Gauge → ℕ → Bool
-zeroUnlessCovered g n = ltb n 15 || (eqb n 16 || eqb (pairAt g n) 0)
+zeroUnlessCovered g n = ltb n 15 || (eqb n 16 || (eqb n 21 || eqb (pairAt g n) 0))
 
 uncovered : (g : Gauge) (n : ℕ) → n < 59 → T (zeroUnlessCovered g n)
 unfolding zeroUnlessCovered register lookUp rows
 uncovered g n h = at-each-below 59 (zeroUnlessCovered g) tt n h
 
--- 0x1E and 0x1F, and 0x22 to 0x75
-pub shows-nothing : (g : Gauge) (n : ℕ) → 15 ≤ n → (n ≡ 16 → ⊥) → n < 59 → 0 ≡ pairAt g n
+-- 0x1E and 0x1F, 0x22 to 0x29, and 0x2C to 0x75
+pub shows-nothing : (g : Gauge) (n : ℕ) → 15 ≤ n → (n ≡ 16 → ⊥) → (n ≡ 21 → ⊥) → n < 59 → 0 ≡ pairAt g n
 unfolding zeroUnlessCovered
-shows-nothing g n from ne to =
-    sym (eqb→eq (pairAt g n) 0 (simp (le-ltb n 15 from, ne-eqb n 16 ne) at (uncovered g n to)))
+shows-nothing g n from cedv cyct to =
+    sym (eqb→eq (pairAt g n) 0 (simp (le-ltb n 15 from, ne-eqb n 16 cedv, ne-eqb n 21 cyct) at (uncovered g n to)))
 
 -- ---- a register is a byte
 

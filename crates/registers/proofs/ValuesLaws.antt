@@ -7,13 +7,13 @@ use native.Mathlib.Nat.{div-le-of-le-mul}
 use native.Mathlib.Omega.{arith}
 use mir.Syntax.{w8}
 use mir.Val.{Fits}
-use Rattle.compensation.specs.Compensation.{compensated, dcmp}
+use Rattle.compensation.specs.Compensation.{compensated}
 use Rattle.gauge.specs.Accepted.{accepted}
 use Rattle.gauge.specs.declared.state.Gauge.{Gauge}
 use Rattle.gauge.proofs.AcceptedLaws as Accepted
 use Rattle.gauge.proofs.AcceptedLaws.{sound}
 use Rattle.sample.specs.Current.{discharge}
-use Rattle.registers.specs.Values.{cac, fcac, nac, reduction}
+use Rattle.registers.specs.Values.{agedDcmp, cac, fcac, nac, reduction}
 
 -- ---- NAC and RSOC
 
@@ -33,9 +33,9 @@ percent-fits part whole h =
 -- ---- what is shown, from what the calls answer
 
 module _ (g : Gauge) where
-  pub reduction-is : {i r : ℕ} → i ≡ discharge (g .sample .current) → r ≡ dcmp (g .configuration) i (g .sample .temperature) → r ≡ reduction g
+  pub reduction-is : {i r : ℕ} → i ≡ discharge (g .sample .current) → r ≡ agedDcmp g i → r ≡ reduction g
   unfolding reduction
-  reduction-is p e = e ∙ ap (λ (k : ℕ). dcmp (g .configuration) k (g .sample .temperature)) p
+  reduction-is p e = e ∙ ap (agedDcmp g) p
 
   pub cac-is : {n d r : ℕ} → n ≡ nac g → d ≡ reduction g → r ≡ compensated n d → r ≡ cac g
   unfolding cac

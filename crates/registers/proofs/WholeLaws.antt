@@ -96,20 +96,24 @@ currents-stored g b iav p tte q ttf w si r stte =
 abbrev zerosWith : List ℕ → List ℕ
 zerosWith part = take 0x76 (replicate registerCount 0) ++ (part ++ drop 10 (drop 0x76 (replicate registerCount 0)))
 
+-- CEDV and CYCT
+abbrev standing : Gauge → List ℕ → List ℕ
+standing g bytes = withPair 0x2A (g .counters .cycles .cyct) (withPair 0x20 (e1 (g .configuration)) bytes)
+
 -- the three groups of registers below CEDV, one after the other
 abbrev stored : Gauge → List ℕ → List ℕ
 stored g bytes = sets (sets (sets bytes 0x01 (registersFrom g 0x01 9)) 0x0A (registersFrom g 0x0A 10)) 0x14 (registersFrom g 0x14 10)
 
-stored-over : (g : Gauge) → stored g (withPair 0x20 (e1 (g .configuration)) (zerosWith (registersFrom g 0x76 10))) ≡ wholeMap g
+stored-over : (g : Gauge) → stored g (standing g (zerosWith (registersFrom g 0x76 10))) ≡ wholeMap g
 unfolding registersFrom register lookUp rows
 stored-over g = refl
 
-pub whole-stored : (g : Gauge) (part : List ℕ) {b₁ b₂ b₃ b₄ : List ℕ} {cedv : ℕ} → length (g .configuration) ≡ 10
+pub whole-stored : (g : Gauge) (part : List ℕ) {b₀ b₁ b₂ b₃ b₄ : List ℕ} {cedv : ℕ} → length (g .configuration) ≡ 10
     → ((i : ℕ) → getD (g .configuration) i 0 < 256) → part ≡ g .configuration → cedv ≡ e1 (g .configuration)
-    → b₁ ≡ withPair 0x20 cedv (zerosWith part) → b₂ ≡ sets b₁ 0x01 (registersFrom g 0x01 9)
+    → b₀ ≡ withPair 0x20 cedv (zerosWith part) → b₁ ≡ withPair 0x2A (g .counters .cycles .cyct) b₀ → b₂ ≡ sets b₁ 0x01 (registersFrom g 0x01 9)
     → b₃ ≡ sets b₂ 0x0A (registersFrom g 0x0A 10) → b₄ ≡ sets b₃ 0x14 (registersFrom g 0x14 10) → b₄ ≡ wholeMap g
-whole-stored g part ten bytes c p e₁ e₂ e₃ e₄ =
-    let first = then-pair 0x20 e₁ (ap zerosWith (c ∙ configuration-from g ten bytes)) p in
+whole-stored g part ten bytes c p e₀ e₁ e₂ e₃ e₄ =
+    let first = then-pair 0x2A e₁ (then-pair 0x20 e₀ (ap zerosWith (c ∙ configuration-from g ten bytes)) p) refl in
     e₄
     ∙ ap (λ (l : List ℕ). sets l 0x14 (registersFrom g 0x14 10)) e₃
     ∙ ap (λ (l : List ℕ). sets (sets l 0x0A (registersFrom g 0x0A 10)) 0x14 (registersFrom g 0x14 10)) e₂

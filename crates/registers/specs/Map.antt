@@ -44,6 +44,7 @@ rows g =
     ∷ row 0x1A 2 (Values.si g)  -- SI
     ∷ row 0x1C 2 (Times.stte g)  -- STTE
     ∷ row 0x20 2 (Configuration.e1 (g .configuration))  -- CEDV (= E1)
+    ∷ row 0x2A 2 (g .counters .cycles .cyct)  -- CYCT (A5 of paper 02)
     ∷ row 0x76 1 (Configuration.ilmd (g .configuration))  -- ILMD
     ∷ row 0x77 1 (Configuration.sedvf (g .configuration))  -- SEDVF
     ∷ row 0x78 1 (Configuration.sedv1 (g .configuration))  -- SEDV1

@@ -1,10 +1,10 @@
 -- "Registers" of paper 01: the times that are shown, minutes. With the wrong sign the divisor is 0, and the quotient 65,535.
 -- Definitions only; assumes nothing.
 use Prim.Native.Nat.{ℕ, _-_, _*_}
-use Rattle.compensation.specs.Compensation.{compensated, dcmp, minutes}
+use Rattle.compensation.specs.Compensation.{compensated, minutes}
 use Rattle.gauge.specs.declared.state.Gauge.{Gauge}
 use Rattle.sample.specs.Current.{charge, discharge}
-use Rattle.registers.specs.Values.{cac, nac, si}
+use Rattle.registers.specs.Values.{agedDcmp, cac, nac, si}
 
 -- "TTE = 60 × CAC / IAV if c < 0"
 unfoldable pub tte : Gauge → ℕ
@@ -20,4 +20,4 @@ stte g = minutes (60 * nac g) (si g)
 
 -- "ARTTE = 60 × max(0, NAC − DCMP(AR)) / AR"
 unfoldable pub artte : Gauge → ℕ
-artte g = minutes (60 * compensated (nac g) (dcmp (g .configuration) (g .host .ar) (g .sample .temperature))) (g .host .ar)
+artte g = minutes (60 * compensated (nac g) (agedDcmp g (g .host .ar))) (g .host .ar)

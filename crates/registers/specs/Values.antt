@@ -19,9 +19,13 @@ flags g = flagsByte (g .sample .current .charging) (g .charge .run .vdq) (g .fla
 unfoldable pub rsoc : Gauge → ℕ
 rsoc g = 100 * nac g / g .charge .lmd
 
+-- DCMP(I) at the last TEMP and, "judged against the aged formula", at CYCT (A5 of paper 02)
+abbrev pub agedDcmp : Gauge → ℕ → ℕ
+agedDcmp g i = dcmp (g .configuration) i (g .sample .temperature) (g .counters .cycles .cyct)
+
 -- "D = DCMP(IAV) if c < 0, else DCMP(0)": the discharge is IAV if c < 0, else 0
 unfoldable pub reduction : Gauge → ℕ
-reduction g = dcmp (g .configuration) (discharge (g .sample .current)) (g .sample .temperature)
+reduction g = agedDcmp g (discharge (g .sample .current))
 
 -- "CAC = max(0, NAC − D), FCAC = max(0, LMD − D)."
 unfoldable pub cac : Gauge → ℕ

@@ -104,7 +104,7 @@ fn configuration_pair(configuration: Configuration, pair: u32) -> u16
     )
 }
 
-// The registers 2n and 2n + 1; "other bytes to 0x7F are 0".
+// The registers 2n and 2n + 1, CEDV and CYCT among them; "other bytes to 0x7F are 0".
 pub(crate) fn pair_at(gauge: Gauge, pair: u32) -> u16
     requires { ⌜ (accepted gauge ≡ true) × (pair < 64) ⌝ }
     ensures { λ r. ⌜ r ≡ Spec.pairAt gauge pair ⌝ }
@@ -121,6 +121,9 @@ pub(crate) fn pair_at(gauge: Gauge, pair: u32) -> u16
     if pair == 16 {
         let configuration = gauge.configuration;
         return e1(configuration);
+    }
+    if pair == 21 {
+        return gauge.counters.cycles.cyct;
     }
     if pair < 59 {
         return 0;

@@ -38,7 +38,12 @@ pub(crate) fn artte(gauge: Gauge) -> u16
     ensures { λ r. ⌜ r ≡ Spec.artte gauge ⌝ }
 {
     let configuration = gauge.configuration;
-    let reduction = dcmp(configuration, gauge.host.ar, gauge.sample.temperature);
+    let reduction = dcmp(
+        configuration,
+        gauge.host.ar,
+        gauge.sample.temperature,
+        gauge.counters.cycles.cyct,
+    );
     minutes(
         60 * compensated(nac(gauge), reduction) as u32,
         gauge.host.ar,

@@ -25,7 +25,7 @@ pub(crate) fn rsoc(gauge: Gauge) -> u8
 }
 
 // D, the compensation at the last counted current.
-fn reduction(gauge: Gauge) -> u32
+fn reduction(gauge: Gauge) -> u64
     ensures { λ r. ⌜ r ≡ Spec.reduction gauge ⌝ }
 {
     let configuration = gauge.configuration;
@@ -33,6 +33,7 @@ fn reduction(gauge: Gauge) -> u32
         configuration,
         gauge.sample.current.discharge(),
         gauge.sample.temperature,
+        gauge.counters.cycles.cyct,
     )
 }
 

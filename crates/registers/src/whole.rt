@@ -100,6 +100,7 @@ pub(crate) fn whole_map(gauge: Gauge) -> [u8; REGISTER_COUNT]
     let configuration = gauge.configuration;
     put_configuration(&configuration, &mut bytes[0x76..0x80]);
     put_pair(&mut bytes, 0x20, e1(configuration));
+    put_pair(&mut bytes, 0x2A, gauge.counters.cycles.cyct);
     put_host(gauge, &mut bytes);
     put_capacities(gauge, &mut bytes);
     put_currents(gauge, &mut bytes);

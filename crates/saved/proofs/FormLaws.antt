@@ -10,7 +10,8 @@ use lib.Dec.{T}
 use lib.ListN.{getD, length, length-append}
 use lib.Seq.{getD-append-add, sets}
 use borrow.Author.Tests.{eqb-true}
-use Rattle.form.specs.Form.{Ar, Configuration, Current, Dcr, Flags, FormNumber, Held, Lmd, Mode, Rests, Sixteenths, Standby, Temperature, Voltage}
+use Rattle.form.specs.Form.{Ar, Configuration, Current, CycleDrain, Cyct, Dcr, Flags, FormNumber, Held, Lmd, Mode, Rests, Sixteenths, Standby}
+use Rattle.form.specs.Form.{Temperature, Voltage}
 use Rattle.form.specs.Form.{Field, Name, has, lengthOf, nameNumber, placeOf, sameName, widthOf}
 use Rattle.gauge.specs.declared.state.Gauge.{Gauge}
 use Rattle.numbers.proofs.LittleLaws.{read-back, valueOf}
@@ -22,7 +23,7 @@ use Rattle.saved.specs.Save.{fieldBytes, fieldsBytes}
 
 names : List Name
 names =
-    FormNumber ∷ Configuration ∷ Held ∷ Dcr ∷ Lmd ∷ Standby ∷ Sixteenths ∷ Current ∷ Voltage ∷ Temperature ∷ Ar ∷ Mode ∷ Flags ∷ Rests ∷ []
+    FormNumber ∷ Configuration ∷ Held ∷ Dcr ∷ Lmd ∷ Standby ∷ Sixteenths ∷ Current ∷ Voltage ∷ Temperature ∷ Ar ∷ Mode ∷ Flags ∷ Rests ∷ Cyct ∷ CycleDrain ∷ []
 
 nameOf : ℕ → Name
 nameOf n = getD names n FormNumber
@@ -43,6 +44,8 @@ name-back Ar = refl
 name-back Mode = refl
 name-back Flags = refl
 name-back Rests = refl
+name-back Cyct = refl
+name-back CycleDrain = refl
 
 same-is : (m n : Name) → sameName m n ≡ true → m ≡ n
 same-is m n e = sym (name-back m) ∙ ap nameOf (eqb-true (nameNumber m) (nameNumber n) e) ∙ name-back n
@@ -102,6 +105,8 @@ module _ (form : ℕ) (g : Gauge) where
   field-length Mode width = little-length width _
   field-length Flags width = little-length width _
   field-length Rests width = little-length width _
+  field-length Cyct width = little-length width _
+  field-length CycleDrain width = little-length width _
 
   pub fields-length : (fs : List Field) → length (fieldsBytes form g fs) ≡ lengthOf fs
   unfolding fieldsBytes

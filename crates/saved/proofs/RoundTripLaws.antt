@@ -9,12 +9,11 @@ use lib.ListN.{getD, length}
 use borrow.Author.Tests.{eq-eqb}
 use Rattle.configuration.specs.Configuration.{dmf}
 use Rattle.counters.specs.Fits.{CountersFit}
-use Rattle.counters.proofs.CountersLaws.{countersOf}
 use Rattle.flags.specs.Byte.{flagsFit, flagsOf, vdqOf}
 use Rattle.flags.proofs.FlagsByteLaws.{byte-accepted, byte-back, byte-fits, flags-back, vdq-back}
 use Rattle.form.proofs.SignedLaws.{current-back, pair-back, pair-fits}
-use Rattle.form.specs.Form.{Ar, Configuration, Current, Dcr, Flags, FormNumber, Held, Lmd, Mode, Rests, Sixteenths, Temperature, Voltage}
-use Rattle.form.specs.Form.{Name, bytesOf, has, newest, numberOf, placeOf, savedLength, widthOf}
+use Rattle.form.specs.Form.{Ar, Configuration, Current, CycleDrain, Cyct, Dcr, Flags, FormNumber, Held, Lmd, Mode, Rests, Sixteenths, Temperature}
+use Rattle.form.specs.Form.{Name, Voltage, bytesOf, has, newest, numberOf, placeOf, savedLength, widthOf}
 use Rattle.form.specs.Signed.{currentOf, signedPair}
 use Rattle.gauge.specs.Accepted.{accepted}
 use Rattle.gauge.specs.Fits.{Fits}
@@ -22,7 +21,7 @@ use Rattle.gauge.specs.declared.answer.Answer.{Answer}
 use Rattle.gauge.specs.declared.state.Gauge.{Gauge}
 use Rattle.gauge.proofs.AcceptedLaws.{sound}
 use Rattle.gauge.proofs.GaugeLaws.{gauge-alike}
-use Rattle.load.proofs.LoadLaws.{accepted-loads, charge-alike, form-first, form-flags, form-length, host-alike}
+use Rattle.load.proofs.LoadLaws.{accepted-loads, charge-alike, counters-alike, form-first, form-flags, form-length, host-alike}
 use Rattle.load.proofs.LoadLaws.{loads, sample-alike}
 use Rattle.load.specs.EveryForm.{loadAnswer}
 use Rattle.load.specs.Load.{answerIn, formFits, loaded, loadedCharge, loadedCounters, loadedHost, loadedSample}
@@ -115,7 +114,8 @@ module _ (g : Gauge) where
         (found Temperature (g .sample .temperature) tt refl (f .temperature)))
         (found Sixteenths (g .standby) tt refl (f .standby)) (ap flagsOf flags-found ∙ flags-back chgs vdq (g .flags))
         (host-alike (found Mode (g .host .mode) tt refl (f .mode)) (found Ar (g .host .ar) tt refl (f .ar)))
-        (ap countersOf (found Rests (g .counters .rests) tt refl (f .counters .rests)))
+        (counters-alike (found Rests (g .counters .rests) tt refl (f .counters .rests)) (found Cyct (g .counters .cycles .cyct) tt refl (f .counters .cyct))
+        (found CycleDrain (g .counters .cycles .drain) tt refl (f .counters .drain)))
 
     saved-fits : formFits newest (savedBytes g) ≡ true
     unfolding formFits
@@ -165,7 +165,10 @@ module _ (bytes : List ℕ) (small : (k : ℕ) → getD bytes k 0 < 256) (f : fo
                 back Lmd,
                 (
                   back Sixteenths,
-                  (current ∙ back Current, (back Voltage, (back Temperature, (back Ar, (back Mode, (flags ∙ back Flags, (back Rests, tt))))))),
+                  (
+                    current ∙ back Current,
+                    (back Voltage, (back Temperature, (back Ar, (back Mode, (flags ∙ back Flags, (back Rests, (back Cyct, (back CycleDrain, tt)))))))),
+                  ),
                 ),
               ),
             ),

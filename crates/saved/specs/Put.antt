@@ -5,7 +5,8 @@ use lib.ListN.{replicate}
 use lib.Seq.{sets}
 use Rattle.charge.specs.declared.charge.Charge.{Charge}
 use Rattle.counters.specs.declared.counters.Counters.{Counters}
-use Rattle.form.specs.Form.{Ar, Configuration, Current, Dcr, FormNumber, Held, Lmd, Mode, Name, Rests, Temperature, Voltage, newest, placeOf, savedLength, widthOf}
+use Rattle.form.specs.Form.{Ar, Configuration, Current, CycleDrain, Cyct, Dcr, FormNumber, Held, Lmd, Mode, Name, Rests, Temperature, Voltage}
+use Rattle.form.specs.Form.{newest, placeOf, savedLength, widthOf}
 use Rattle.form.specs.Signed.{signedPair}
 use Rattle.host.specs.declared.host.Host.{Host}
 use Rattle.numbers.specs.Little.{bytesAt, little}
@@ -35,6 +36,6 @@ samplePut x bytes =
 unfoldable pub hostPut : Host → List ℕ → List ℕ
 hostPut x bytes = numberPut Mode (x .mode) (numberPut Ar (x .ar) bytes)
 
--- the count of rest windows
+-- the count of rest windows, CYCT and its drain
 unfoldable pub countersPut : Counters → List ℕ → List ℕ
-countersPut x bytes = numberPut Rests (x .rests) bytes
+countersPut x bytes = numberPut CycleDrain (x .cycles .drain) (numberPut Cyct (x .cycles .cyct) (numberPut Rests (x .rests) bytes))

@@ -6,8 +6,8 @@ use Prim.Native.Nat.{ℕ}
 use lib.Dec.{eqb}
 use lib.ListN.{length}
 use Rattle.flags.specs.Byte.{flagsByte}
-use Rattle.form.specs.Form.{Ar, Configuration, Current, Dcr, Flags, FormNumber, Held, Lmd, Mode, Rests, Sixteenths, Standby, Temperature, Voltage}
-use Rattle.form.specs.Form.{Field, Form, Name, newest, savedLength}
+use Rattle.form.specs.Form.{Ar, Configuration, Current, CycleDrain, Cyct, Dcr, Flags, FormNumber, Held, Lmd, Mode, Rests, Sixteenths, Standby}
+use Rattle.form.specs.Form.{Field, Form, Name, Temperature, Voltage, newest, savedLength}
 use Rattle.form.specs.Signed.{signedPair}
 use Rattle.gauge.specs.Answer.{unlessRejected}
 use Rattle.gauge.specs.declared.state.Gauge.{Gauge}
@@ -35,6 +35,8 @@ fieldBytes form g Ar width = little width (g .host .ar)
 fieldBytes form g Mode width = little width (g .host .mode)
 fieldBytes form g Flags width = little width (flagsOfGauge g)
 fieldBytes form g Rests width = little width (g .counters .rests)
+fieldBytes form g Cyct width = little width (g .counters .cycles .cyct)
+fieldBytes form g CycleDrain width = little width (g .counters .cycles .drain)
 
 -- the bytes of the fields, one after the other
 unfoldable pub fieldsBytes : ℕ → Gauge → List Field → List ℕ

@@ -16,6 +16,8 @@ use flags::flags::Flags;
 use form::form::AT_AR;
 use form::form::AT_CONFIGURATION;
 use form::form::AT_CURRENT;
+use form::form::AT_CYCLE_DRAIN;
+use form::form::AT_CYCT;
 use form::form::AT_DCR;
 use form::form::AT_FLAGS;
 use form::form::AT_FORM;
@@ -85,6 +87,8 @@ fn put_counters(bytes: &mut Saved, counters: Counters)
     ensures { λ _. ⌜ now (bytes .exit) ≡ Put.countersPut counters (now (bytes .entry)) ⌝ }
 {
     put_two(bytes, AT_RESTS, counters.rests);
+    put_two(bytes, AT_CYCT, counters.cycles.cyct);
+    put_eight(bytes, AT_CYCLE_DRAIN, counters.cycles.drain);
 }
 
 // The bytes of a gauge, accepted or not.

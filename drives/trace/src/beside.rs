@@ -37,14 +37,14 @@ pub fn rows(steps: &[Step], truth: &str) -> Result<Vec<Row>, String> {
 }
 
 fn opened(step: &Step) -> Result<Configuration, String> {
-    let gauge = step.gauge.filter(|_| matches!(step.line, Line::Open(_))).ok_or_else(|| other(step))?;
+    let gauge = step.gauge.filter(|_| matches!(step.line, Some(Line::Open(_)))).ok_or_else(|| other(step))?;
     Ok(gauge.configuration)
 }
 
 /// Current, voltage and temperature of a window that is not refused.
 fn measured(step: &Step) -> Result<[i32; 3], String> {
     match step.line {
-        Line::One(Call::Window { current, voltage, temperature }) if !step.refused() => Ok([current, voltage, temperature]),
+        Some(Line::One(Call::Window { current, voltage, temperature })) if !step.refused() => Ok([current, voltage, temperature]),
         _ => Err(other(step)),
     }
 }

@@ -2,10 +2,10 @@
 //!
 //!     trace [--rounded TRUE] TABLE FOLDER
 //!
-//! TABLE is what `replay --all` printed for any list. The calls of its rows are made on the second implementation, and the first row where
-//! anything that is shown differs, or where the history of demand 3 does, is an error. The tables go to FOLDER: `curves`, `bands`,
-//! `points`, `dark`, `refused`, `estimates` and `marks`. With `--rounded` also `beside` and `beside-marks`, for `compare-rounded`; TRUE
-//! has the true charge of the cell after each window.
+//! TABLE is what `replay --all` printed for any list. The calls of its rows are made on the second implementation, those of a repeated part as
+//! often as there, and the first row where anything that is shown differs, or where the history of demand 3 does, is an error. The tables
+//! go to FOLDER: `curves`, `bands`, `points`, `dark`, `refused`, `estimates`, `rounds` and `marks`. With `--rounded` also `beside` and
+//! `beside-marks`, for `compare-rounded`; TRUE has the true charge of the cell after each window.
 
 mod agreement;
 mod axis;
@@ -14,6 +14,7 @@ mod beside;
 mod examples;
 mod line;
 mod marks;
+mod parts;
 mod rounded;
 mod second;
 mod shown;
@@ -22,6 +23,7 @@ mod table;
 mod tables;
 
 use marks::Marks;
+use second::Calls;
 use std::{env, fs, path::Path, process::ExitCode};
 use step::Step;
 
@@ -41,7 +43,7 @@ fn run(arguments: &[String]) -> Result<(), String> {
         [option, truth, table, folder] if option == "--rounded" => (Some(truth), table, folder),
         _ => return Err(String::from("usage: trace [--rounded TRUE] TABLE FOLDER")),
     };
-    let steps = agreement::steps(&read(table)?)?;
+    let (steps, calls) = agreement::steps(&read(table)?)?;
     if steps.iter().all(|step| step.gauge.is_none()) {
         return Err(String::from("nothing to draw: no gauge was opened or loaded"));
     }
@@ -51,10 +53,10 @@ fn run(arguments: &[String]) -> Result<(), String> {
         put(folder, "beside", &beside::table(&rows))?;
         put(folder, "beside-marks", &beside::marks(&rows))?;
     }
-    write(&steps, folder)
+    write(&steps, calls, folder)
 }
 
-fn write(steps: &[Step], folder: &Path) -> Result<(), String> {
+fn write(steps: &[Step], calls: Calls, folder: &Path) -> Result<(), String> {
     let moves: Vec<&Step> = steps.iter().filter(|step| step.moves()).collect();
     let (bands, points) = (tables::bands(&moves), tables::points(&moves));
     let (dark, refused) = (tables::dark(&moves), tables::refused(steps));
@@ -65,9 +67,15 @@ fn write(steps: &[Step], folder: &Path) -> Result<(), String> {
     put(folder, "refused", &lines(&refused, |hour| format!("{hour:.6}")))?;
     let estimates = lines(&tables::estimates(steps), |(hour, v, counts, distance)| format!("{hour:.6} {v} {counts} {distance}"));
     put(folder, "estimates", &estimates)?;
+    let rounds = tables::rounds(&moves);
+    put(folder, "rounds", &lines(&rounds, |(from, to)| format!("{from:.6} {to:.6}")))?;
     let made = points.iter().map(|point| point.0).collect();
     let bands = bands.iter().map(|band| band.0).collect();
-    put(folder, "marks", &Marks { steps, refused: refused.len(), dark: dark.len(), made, bands }.text())
+    put(
+        folder,
+        "marks",
+        &Marks { steps, calls, crosses: refused.len(), dark: dark.len(), rounds: rounds.len(), made, bands }.text(),
+    )
 }
 
 fn lines<T>(rows: &[T], line: impl Fn(&T) -> String) -> String {

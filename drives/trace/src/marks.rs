@@ -1,17 +1,21 @@
 //! What gnuplot needs beside the tables, as its variables.
 
 use crate::axis;
+use crate::second::Calls;
 use crate::step::{hours, Step};
 use crate::tables::kinds;
 
 /// - `end`: the last hour, at least one window; `unit`, `per_hour` and `time_tic` of the axis of time;
 /// - `greatest`: the greatest LMD; `count_tic` of the axis of counts;
-/// - `calls`, `refused`, `dark`: how many there are;
+/// - `calls`, `refused`: how many there are, those without rows among them; `crosses`: the refused ones that have rows;
+/// - `dark`: how often the handset goes dark; `rounds`: how many stretches of rounds there are whose calls have no rows;
 /// - `kind`: the names of the kinds of points; `made`: the numbers of those that there are; `bands`: the same of bands.
 pub struct Marks<'a> {
     pub steps: &'a [Step],
-    pub refused: usize,
+    pub calls: Calls,
+    pub crosses: usize,
     pub dark: usize,
+    pub rounds: usize,
     pub made: Vec<usize>,
     pub bands: Vec<usize>,
 }
@@ -25,7 +29,8 @@ impl Marks<'_> {
         [
             format!("end = {end:.6}\nunit = '{unit}'\nper_hour = {per_hour:?}\ntime_tic = {tic:?}"),
             format!("greatest = {greatest}\ncount_tic = {}", axis::counts(i64::from(greatest))),
-            format!("calls = {}\nrefused = {}\ndark = {}", self.steps.len(), self.refused, self.dark),
+            format!("calls = {}\nrefused = {}\ncrosses = {}", self.calls.made, self.calls.refused, self.crosses),
+            format!("dark = {}\nrounds = {}", self.dark, self.rounds),
             format!("array kind[{}] = ['{}']", names.len(), names.join("', '")),
             format!("made = '{}'\nbands = '{}'\n", words(&self.made), words(&self.bands)),
         ]
@@ -46,20 +51,25 @@ mod tests {
     use super::*;
     use crate::examples;
 
+    const CALLS: Calls = Calls { made: 2, refused: 0 };
+
     #[test]
     fn a_list_of_commands_is_one_window_wide() {
         let steps = examples::steps(&["open 08 5E 77 05 21 10 00 00 6C 15", "nac 9"]);
-        let text = Marks { steps: &steps, refused: 0, dark: 0, made: vec![3, 1, 3], bands: vec![5] }.text();
+        let (made, bands) = (vec![3, 1, 3], vec![5]);
+        let text = Marks { steps: &steps, calls: CALLS, crosses: 0, dark: 0, rounds: 0, made, bands }.text();
         assert!(text.starts_with(
             "end = 0.001422\nunit = 'seconds'\nper_hour = 3600.0\ntime_tic = 0.5\ngreatest = 2048\ncount_tic = 256\n"
         ));
+        assert!(text.contains("\ncalls = 2\nrefused = 0\ncrosses = 0\ndark = 0\nrounds = 0\n"));
         assert!(text.ends_with("\nmade = '1 3'\nbands = '5'\n"));
     }
 
     #[test]
     fn the_greatest_capacity_may_be_one_that_is_gone() {
         let steps = examples::steps(&["open 01 5E 77 05 21 10 00 00 6C 15", "lmd 1825", "lmd 200"]);
-        let text = Marks { steps: &steps, refused: 0, dark: 0, made: Vec::new(), bands: Vec::new() }.text();
+        let (made, bands) = (Vec::new(), Vec::new());
+        let text = Marks { steps: &steps, calls: CALLS, crosses: 0, dark: 0, rounds: 0, made, bands }.text();
         assert!(text.contains("greatest = 1825\n"));
     }
 }

@@ -15,6 +15,14 @@ use reference::trace::Trace;
 pub struct Second {
     trace: Option<Trace>,
     windows: u64,
+    calls: Calls,
+}
+
+/// How many there were.
+#[derive(Clone, Copy, Debug, Default, PartialEq, Eq)]
+pub struct Calls {
+    pub made: usize,
+    pub refused: usize,
 }
 
 impl Second {
@@ -30,14 +38,29 @@ impl Second {
     pub fn step(&mut self, row: usize, line: Line) -> Step {
         let from = self.windows;
         let answer = self.answer(&line);
-        if answer.is_ok() {
-            self.windows += length(&line);
+        self.calls.made += 1;
+        match answer {
+            Ok(_) => self.windows += length(&line),
+            Err(_) => self.calls.refused += 1,
         }
         let (number, points) = match answer {
             Ok(points) => (0, points),
             Err(number) => (number, FixingPoints::default()),
         };
-        Step { row, line, from, to: self.windows, number, gauge: self.gauge(), points }
+        Step { row, line: Some(line), from, to: self.windows, number, gauge: self.gauge(), points }
+    }
+
+    /// A round that began at so many windows and whose calls have no rows.
+    pub fn round(&self, row: usize, from: u64) -> Step {
+        Step { row, line: None, from, to: self.windows, number: 0, gauge: self.gauge(), points: FixingPoints::default() }
+    }
+
+    pub fn windows(&self) -> u64 {
+        self.windows
+    }
+
+    pub fn calls(&self) -> Calls {
+        self.calls
     }
 
     fn gauge(&self) -> Option<Gauge> {

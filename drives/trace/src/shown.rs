@@ -20,7 +20,7 @@ enum Form {
 }
 
 /// In the order of the heading of `replay --all`.
-pub const REGISTERS: [Register; 17] = [
+pub const REGISTERS: [Register; 18] = [
     register("NAC", 0x0C, Form::Pair),
     register("LMD", 0x0E, Form::Pair),
     register("RSOC", 0x0B, Form::Byte),
@@ -38,6 +38,7 @@ pub const REGISTERS: [Register; 17] = [
     register("SI", 0x1A, Form::Pair),
     register("STTE", 0x1C, Form::Pair),
     register("CEDV", 0x20, Form::Pair),
+    register("CYCT", 0x2A, Form::Pair),
 ];
 
 const fn register(name: &'static str, address: usize, form: Form) -> Register {

@@ -1,4 +1,4 @@
-//! One call of a list and how the gauge stands after it.
+//! One call of a list, or one round of calls that have no rows, and how the gauge stands after it.
 
 use crate::line::Line;
 use reference::estimate::{self, Estimate};
@@ -11,33 +11,43 @@ use reference::leak::GRAINS_PER_COUNT;
 pub struct Step {
     /// The row's line in the table.
     pub row: usize,
-    pub line: Line,
+    /// None for a round.
+    pub line: Option<Line>,
     /// Windows since the first call, before this one and after it.
     pub from: u64,
     pub to: u64,
-    /// 0, or the number with which the call was refused.
+    /// 0, or the number with which the call was refused; 0 for a round.
     pub number: u32,
     /// After the call; none before the first opening that is not refused.
     pub gauge: Option<Gauge>,
+    /// None of a round.
     pub points: FixingPoints,
 }
 
 impl Step {
+    pub fn is_round(&self) -> bool {
+        self.line.is_none()
+    }
+
     pub fn refused(&self) -> bool {
         self.number != 0
     }
 
     /// Not refused, and no read, preview or estimate: the steps from which curves, bands and points are drawn.
     pub fn moves(&self) -> bool {
-        let looks =
-            matches!(self.line, Line::One(Call::Read { .. } | Call::Preview { .. } | Call::Estimate { .. }) | Line::Preview(_));
+        let looks = matches!(
+            self.line,
+            Some(Line::One(Call::Read { .. } | Call::Preview { .. } | Call::Estimate { .. }) | Line::Preview(_))
+        );
         !self.refused() && !looks
     }
 
     /// The voltage of an estimate that the gauge accepts, and what it gives; none for another call.
     pub fn estimate(&self) -> Option<(i32, Estimate)> {
         match (&self.line, &self.gauge) {
-            (&Line::One(Call::Estimate { voltage }), Some(gauge)) => Some((voltage, estimate::estimate(gauge, voltage).ok()?)),
+            (&Some(Line::One(Call::Estimate { voltage })), Some(gauge)) => {
+                Some((voltage, estimate::estimate(gauge, voltage).ok()?))
+            }
             _ => None,
         }
     }

@@ -23,7 +23,7 @@ pub fn kinds() -> Vec<&'static str> {
 pub fn curves(steps: &[&Step]) -> String {
     let mut text = String::from("hour nac lmd rsoc held\n");
     for (at, step) in steps.iter().enumerate() {
-        if at > 0 && matches!(step.line, Line::Open(_) | Line::Load(_)) {
+        if at > 0 && matches!(step.line, Some(Line::Open(_) | Line::Load(_))) {
             text.push('\n');
         }
         if let Some(gauge) = &step.gauge {
@@ -34,7 +34,8 @@ pub fn curves(steps: &[&Step]) -> String {
     text
 }
 
-/// For each time that a flag stays set, and for each stretch of rests: number of its band, first hour, last hour.
+/// For each time that a flag stays set, and for each stretch of rests: number of its band, first hour, last hour. During a round whose calls have no
+/// rows nothing is known to hold.
 pub fn bands(steps: &[&Step]) -> Vec<(usize, f64, f64)> {
     let mut found = Vec::new();
     let mut band = |number, holds: &dyn Fn(&Step) -> bool| {
@@ -43,9 +44,9 @@ pub fn bands(steps: &[&Step]) -> Vec<(usize, f64, f64)> {
         }
     };
     for (at, flag) in FLAGS.iter().enumerate() {
-        band(at + 1, &|step| step.flags() & flag != 0);
+        band(at + 1, &|step| !step.is_round() && step.flags() & flag != 0);
     }
-    band(FLAGS.len() + 1, &|step| matches!(step.line, Line::One(Call::Rest { .. })));
+    band(FLAGS.len() + 1, &|step| matches!(step.line, Some(Line::One(Call::Rest { .. }))));
     found
 }
 
@@ -60,8 +61,14 @@ pub fn points(steps: &[&Step]) -> Vec<(usize, f64, i32)> {
     for (at, &point) in FixingPoint::ALL.iter().enumerate() {
         kind(at + 1, &|step| step.points.contains(point));
     }
-    kind(FixingPoint::ALL.len() + 1, &|step| matches!(step.line, Line::Load(_)));
+    kind(FixingPoint::ALL.len() + 1, &|step| matches!(step.line, Some(Line::Load(_))));
     found
+}
+
+/// For each stretch of rounds whose calls have no rows: first hour, last hour.
+pub fn rounds(steps: &[&Step]) -> Vec<(f64, f64)> {
+    let found = stretches(steps, &|step| step.is_round());
+    found.iter().map(|stretch| (hours(stretch[0].from), hours(stretch[stretch.len() - 1].to))).collect()
 }
 
 /// Where something holds for steps that follow one another.
@@ -100,7 +107,8 @@ pub fn estimates(steps: &[Step]) -> Vec<(f64, i32, i32, i32)> {
 #[cfg(test)]
 mod tests {
     use super::*;
-    use crate::examples;
+    use crate::agreement;
+    use crate::examples::{self, REPEATED};
 
     const LINES: [&str; 9] = [
         "open 04 5E 77 05 21 10 00 00 6C 15",
@@ -156,6 +164,16 @@ mod tests {
         let asked = ["estimate 3703", "estimate 2999", "estimate 4200"];
         let steps = examples::steps(&[&[LINES[0], "nac 500", asked[0], "rest 703 1192"], &asked[..]].concat());
         assert_eq!(estimates(&steps), [(hours(703), 3703, 358, -141), (hours(703), 4200, 1024, 525)]);
+    }
+
+    #[test]
+    fn rounds_without_rows_have_a_place_on_the_curves_and_no_band() {
+        let (steps, _) = agreement::steps(REPEATED).unwrap();
+        let moves: Vec<&Step> = steps.iter().collect();
+        assert_eq!(curves(&moves).lines().count(), 9);
+        assert_eq!(rounds(&moves), [(hours(1), hours(3))]);
+        let of_ci: Vec<_> = bands(&moves).into_iter().filter(|band| band.0 == 5).map(|(_, from, to)| (from, to)).collect();
+        assert_eq!(of_ci, [(0.0, hours(1)), (hours(3), hours(5))]);
     }
 
     #[test]

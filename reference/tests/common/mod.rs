@@ -9,13 +9,14 @@ use reference::saved;
 pub const G: i64 = 135_000_000;
 pub const GREATEST_DRAIN: i64 = 65_535 * G;
 
-/// Bytes of the newest form, and of forms 1 and 2.
-pub type Saved = [u8; 43];
+/// Bytes of the newest form, of form 3, and of forms 1 and 2.
+pub type Saved = [u8; 53];
+pub type Form3 = [u8; 43];
 pub type Old = [u8; 41];
 
 /// The bench pack, opened.
 pub fn opened() -> Saved {
-    let mut bytes = [0xEE; 43];
+    let mut bytes = [0xEE; 53];
     assert_eq!(calls::open(&BENCH_PACK, &mut bytes), 0);
     bytes
 }
@@ -29,7 +30,7 @@ pub fn gauge(bytes: &[u8]) -> Gauge {
 pub fn with(change: impl Fn(&mut Gauge)) -> Saved {
     let mut changed = gauge(&opened());
     change(&mut changed);
-    let mut bytes = [0; 43];
+    let mut bytes = [0; 53];
     saved::store(&changed, &mut bytes);
     bytes
 }
@@ -40,19 +41,31 @@ pub fn after(mut bytes: Saved, current: i32, voltage: i32, temperature: i32) -> 
     bytes
 }
 
-/// Saved bytes in form 1: SI in whole units in the same two bytes, and no count of rest windows.
+/// Saved bytes in each older form, from form 1 on.
+pub fn as_older_forms(bytes: &Saved) -> [Vec<u8>; 3] {
+    [as_form_1(bytes).to_vec(), as_form_2(bytes).to_vec(), as_form_3(bytes).to_vec()]
+}
+
+/// Saved bytes in form 1: SI in whole units in the same two bytes, no count of rest windows and no cycles.
 pub fn as_form_1(bytes: &Saved) -> Old {
     let si = u16::from_le_bytes([bytes[29], bytes[30]]);
     assert_eq!(si % 16, 0, "form 1 has no parts of a unit");
     old_with_si(1, bytes, si / 16)
 }
 
-/// Saved bytes in form 2, which has no count of rest windows.
+/// Saved bytes in form 2, which has no count of rest windows and no cycles.
 pub fn as_form_2(bytes: &Saved) -> Old {
     old_with_si(2, bytes, u16::from_le_bytes([bytes[29], bytes[30]]))
 }
 
-/// Saved bytes with the number of an older form, and of its length, and another SI as it is stored.
+/// Saved bytes in form 3, which has no cycles.
+pub fn as_form_3(bytes: &Saved) -> Form3 {
+    let mut old: Form3 = bytes[..43].try_into().unwrap();
+    old[0] = 3;
+    old
+}
+
+/// Saved bytes with the number of form 1 or 2, and of its length, and another SI as it is stored.
 pub fn old_with_si(form: u8, bytes: &Saved, si: u16) -> Old {
     let mut old: Old = bytes[..41].try_into().unwrap();
     old[0] = form;
@@ -65,6 +78,15 @@ pub fn with_si(bytes: &Saved, si: u16) -> Saved {
     let mut other = *bytes;
     other[29..31].copy_from_slice(&si.to_le_bytes());
     other
+}
+
+/// The bytes after a command that is not refused: AR, MODE and the key.
+pub fn after_command(mut bytes: Saved, ar: u16, mode: u8, key: u8) -> Saved {
+    let [low, high] = ar.to_le_bytes();
+    for (address, value) in [(0x02, low), (0x03, high), (0x01, mode), (0x00, key)] {
+        assert_eq!(calls::write(&mut bytes, address, value), 0);
+    }
+    bytes
 }
 
 /// The bytes after a rest that is not refused.

@@ -5,7 +5,8 @@ use Rattle.charge.specs.Obeyed.{chargeObeyed, writtenLmd, writtenNac}
 use Rattle.charge.specs.Rest.{rested, restedOnce}
 use Rattle.command.specs.Command.{decide, decide56, decideA9, highestCommandBit, isReset}
 use Rattle.configuration.specs.Configuration.{openedMode}
-use Rattle.counters.specs.Counters.{countersMoved, countersObeyed, countersRested, openedCounters}
+use Rattle.counters.specs.Counters.{countersAccepted, countersMoved, countersObeyed, countersRested, openedCounters}
+use Rattle.counters.specs.Cycles.{cyclesAccepted, cyclesMoved, cyctAfter, drainWith, noCycles}
 use Rattle.estimate.specs.Estimate.{distanceAfter, distanceFrom, estimateAfter, estimateRefusal, estimated}
 use Rattle.flags.specs.Flags.{clearedIf, flagsObeyed}
 use Rattle.gauge.specs.Accepted.{accepted}
@@ -38,6 +39,7 @@ unfolding chargeAccepted emptied filled heldMoved leaked moved openedCharge runM
     unlessPassed commanded commandsCleared fullIf hostObeyed initCleared openedHost stored rule inTable permille endingOf isFull chargeEnded
     chargeReached filledIf flagsEnded reachedBy charge counted discharge zeroOrWithin between currentInRange valueBetween currentAccepted noSample
     sampleAccepted sampleReset sampleRested averaged standbyAccepted standbyReset
+    countersAccepted cyclesAccepted noCycles cyclesMoved cyctAfter drainWith
 returns c =
     record {
       at-3000 = refl;

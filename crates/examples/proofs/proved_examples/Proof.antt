@@ -2,8 +2,10 @@
 use mathlib.Core.Path.{refl}
 use Rattle.charge.specs.Charge.{chargeAccepted, emptied, filled, heldMoved, leaked, moved, openedCharge, runMoved, taught, withoutRun}
 use Rattle.command.specs.Command.{decide, decideA9, highestCommandBit}
-use Rattle.compensation.specs.Compensation.{dcmp, dt, minutes, offsetTerm, rateTerm}
+use Rattle.compensation.specs.Compensation.{adcgn, dcmp, dt, minutes, offsetTerm, rateTerm}
 use Rattle.configuration.specs.Configuration.{dcompTaken, openedMode}
+use Rattle.counters.specs.Counters.{countersAccepted, countersMoved, openedCounters}
+use Rattle.counters.specs.Cycles.{cyclesAccepted, cyclesMoved, cyctAfter, drainWith, noCycles}
 use Rattle.flags.specs.Byte.{flagsByte}
 use Rattle.flags.specs.Flags.{atEdv1, atEdvf, atTaught, clearedIf}
 use Rattle.gauge.specs.Accepted.{accepted}
@@ -33,6 +35,7 @@ unfolding chargeAccepted emptied filled heldMoved leaked moved openedCharge runM
     openRefusal opened reachedIn summed window band leak leakRate reached weight learned drained runAccepted unlessPassed fullIf openedHost
     endingOf mayTeach isFull chargeEnded chargeReached filledIf flagsEnded reachedBy tte cac reduction rsoc charge counted discharge
     zeroOrWithin between currentInRange valueBetween currentAccepted noSample sampleAccepted averaged standbyAccepted
+    adcgn countersAccepted countersMoved openedCounters cyclesAccepted cyclesMoved cyctAfter drainWith noCycles
 returns c =
     record {
       bench-lmd = refl;

@@ -2,7 +2,8 @@
 use mathlib.Core.Path.{refl}
 use Rattle.charge.specs.Charge.{chargeAccepted, openedCharge}
 use Rattle.configuration.specs.Configuration.{openedMode}
-use Rattle.counters.specs.Counters.{openedCounters}
+use Rattle.counters.specs.Counters.{countersAccepted, openedCounters}
+use Rattle.counters.specs.Cycles.{cyclesAccepted, noCycles}
 use Rattle.flags.specs.Byte.{flagsByte, flagsFit, flagsOf}
 use Rattle.form.specs.Signed.{currentOf, signedPair}
 use Rattle.gauge.specs.Accepted.{accepted}
@@ -11,6 +12,7 @@ use Rattle.grains.specs.Run.{runAccepted}
 use Rattle.host.specs.Host.{openedHost}
 use Rattle.load.specs.EveryForm.{loadAnswer}
 use Rattle.load.specs.Load.{acceptedAnswer, answerIn, formFits, loaded, loadedCharge, loadedCounters, loadedHost, loadedSample, rejectedAnswer}
+use Rattle.registers.specs.Map.{lookUp, register, rows}
 use Rattle.sample.specs.Limits.{zeroOrWithin}
 use Rattle.sample.specs.Sample.{currentAccepted, noSample, sampleAccepted}
 use Rattle.saved.specs.Save.{fieldBytes, fieldsBytes, savedBytes}
@@ -22,6 +24,7 @@ returns : tie.Need-returns
 unfolding chargeAccepted openedCharge openedMode flagsByte flagsFit flagsOf accepted opened runAccepted openedHost zeroOrWithin currentAccepted
     noSample sampleAccepted loadAnswer acceptedAnswer answerIn formFits loaded loadedCharge loadedCounters loadedHost loadedSample rejectedAnswer fieldBytes
     fieldsBytes savedBytes currentOf signedPair standbyAccepted openedCounters
+    countersAccepted cyclesAccepted noCycles lookUp register rows
 returns c =
     record {
       length-41 = refl;
@@ -43,13 +46,25 @@ returns c =
       form-1-rests = refl;
       form-2-rests = refl;
       form-2-long = refl;
+      length-53 = refl;
+      form-4-cyct = refl;
+      form-4-low = refl;
+      form-4-high = refl;
+      form-4-drain = refl;
+      form-4-below = refl;
+      form-4-at = refl;
+      form-4-short = refl;
+      form-3-cycles = refl;
+      form-3-long = refl;
       form-0 = refl;
-      form-4 = refl;
+      form-5 = refl;
+      taken-4 = refl;
       taken-3 = refl;
       taken-2 = refl;
       taken-1 = refl;
       saved-1 = refl;
       saved-2 = refl;
+      saved-3 = refl;
     }
 
 pub proved-forms-spec : {M : Type 1} → statement M

@@ -4,6 +4,8 @@ use Rattle.charge.specs.Charge.{chargeAccepted, emptied, filled, heldMoved, lea
 use Rattle.charge.specs.Obeyed.{chargeObeyed, writtenLmd, writtenNac}
 use Rattle.command.specs.Command.{commandOf, decide, decide56, decideA9, highestCommandBit, isReset}
 use Rattle.configuration.specs.Configuration.{openedMode}
+use Rattle.counters.specs.Counters.{countersAccepted, countersMoved, countersObeyed, openedCounters}
+use Rattle.counters.specs.Cycles.{cyclesAccepted, cyclesMoved, cyctAfter, drainWith, noCycles}
 use Rattle.flags.specs.Flags.{clearedIf, flagsObeyed}
 use Rattle.gauge.specs.Accepted.{accepted}
 use Rattle.gauge.specs.Calls.{storedAt, windowAnswer, writeAnswer, writeRefusal, written}
@@ -38,6 +40,7 @@ unfolding chargeAccepted emptied filled heldMoved leaked moved openedCharge runM
     reachedBy charge counted discharge zeroOrWithin between currentInRange valueBetween currentAccepted noSample sampleAccepted sampleReset
     standbyAccepted standbyReset commandAfter previewRefusal commandOf decide56 rsoc Preview.replyAfter Reading.replyAfter
     readRefusal placeRefusal registersFrom register lookUp rows writtenLmd averaged
+    countersAccepted countersMoved countersObeyed openedCounters cyclesAccepted cyclesMoved cyctAfter drainWith noCycles
 returns c =
     record {
       wrtnac = refl;

@@ -5,6 +5,8 @@ use Rattle.charge.specs.Obeyed.{chargeObeyed}
 use Rattle.charge.specs.Rest.{rested, restedOnce}
 use Rattle.command.specs.Command.{decide, decideA9, highestCommandBit, isReset}
 use Rattle.configuration.specs.Configuration.{openedMode}
+use Rattle.counters.specs.Counters.{countersAccepted, countersObeyed, countersRested, openedCounters}
+use Rattle.counters.specs.Cycles.{cyclesAccepted, noCycles}
 use Rattle.flags.specs.Flags.{flagsObeyed}
 use Rattle.gauge.specs.Accepted.{accepted}
 use Rattle.gauge.specs.Calls.{restAnswer, storedAt, writeAnswer, writeRefusal, written}
@@ -27,6 +29,7 @@ unfolding chargeAccepted filled leaked openedCharge chargeObeyed rested restedOn
     accepted restAnswer storedAt writeAnswer writeRefusal written decided obeyed openAnswer openRefusal opened rest band leak leakRate reached weight
     stepWindows drained runAccepted unlessPassed commanded commandsCleared hostObeyed initCleared openedHost stored zeroOrWithin between valueBetween
     currentAccepted noSample sampleAccepted sampleReset sampleRested standbyAccepted standbyReset
+    countersAccepted countersObeyed countersRested openedCounters cyclesAccepted noCycles
 returns c =
     record {
       first-loses = refl;

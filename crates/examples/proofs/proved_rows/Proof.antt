@@ -2,8 +2,10 @@
 use mathlib.Core.Path.{refl}
 use Rattle.charge.specs.Charge.{chargeAccepted, emptied, filled, heldMoved, leaked, moved, openedCharge, runMoved, taught, withoutRun}
 use Rattle.command.specs.Command.{decide, decide56, decideA9, highestCommandBit}
-use Rattle.compensation.specs.Compensation.{dcmp, dt, minutes, offsetTerm, rateTerm}
+use Rattle.compensation.specs.Compensation.{adcgn, dcmp, dt, minutes, offsetTerm, rateTerm}
 use Rattle.configuration.specs.Configuration.{dcompTaken, openedMode}
+use Rattle.counters.specs.Counters.{countersAccepted, countersMoved, countersObeyed, openedCounters}
+use Rattle.counters.specs.Cycles.{cyclesAccepted, cyclesMoved, cyctAfter, drainWith, noCycles}
 use Rattle.flags.specs.Byte.{flagsByte}
 use Rattle.flags.specs.Flags.{atEdv1, atEdvf, atTaught, clearedIf}
 use Rattle.gauge.specs.Accepted.{accepted}
@@ -34,6 +36,7 @@ unfolding chargeAccepted emptied filled heldMoved leaked moved openedCharge runM
     learned drained runAccepted unlessPassed commandsCleared fullIf initCleared openedHost stored endingOf mayTeach isFull chargeEnded
     chargeReached filledIf flagsEnded reachedBy artte stte tte ttf cac fcac reduction charge counted discharge zeroOrWithin between
     currentInRange valueBetween currentAccepted noSample sampleAccepted averaged shown standbyAccepted
+    adcgn countersAccepted countersMoved countersObeyed openedCounters cyclesAccepted cyclesMoved cyctAfter drainWith noCycles
 returns c =
     record {
       e1-margin = refl;

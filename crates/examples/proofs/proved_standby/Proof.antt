@@ -5,6 +5,8 @@ use Rattle.charge.specs.Obeyed.{chargeObeyed, writtenNac}
 use Rattle.command.specs.Command.{decide, decideA9, highestCommandBit, isReset}
 use Rattle.compensation.specs.Compensation.{minutes}
 use Rattle.configuration.specs.Configuration.{openedMode}
+use Rattle.counters.specs.Counters.{countersAccepted, countersMoved, countersObeyed, openedCounters}
+use Rattle.counters.specs.Cycles.{cyclesAccepted, cyclesMoved, cyctAfter, drainWith, noCycles}
 use Rattle.flags.specs.Flags.{clearedIf, flagsObeyed}
 use Rattle.gauge.specs.Accepted.{accepted}
 use Rattle.gauge.specs.Calls.{storedAt, windowAnswer, writeAnswer, writeRefusal, written}
@@ -34,6 +36,7 @@ unfolding chargeAccepted emptied filled heldMoved leaked moved openedCharge runM
     commanded commandsCleared fullIf hostObeyed initCleared openedHost stored endingOf isFull chargeEnded chargeReached filledIf flagsEnded reachedBy
     stte charge counted discharge zeroOrWithin between currentInRange valueBetween currentAccepted noSample sampleAccepted sampleReset averaged
     shown standbyAccepted standbyReset afterLoads
+    countersAccepted countersMoved countersObeyed openedCounters cyclesAccepted cyclesMoved cyctAfter drainWith noCycles
 returns c =
     record {
       opened-480 = refl;

@@ -1,9 +1,10 @@
 -- The invariant is that of the passes: the bytes before `at` are fed. The measure is what is left of the part, which each pass makes less.
 -- Assumes nothing.
-use Prim.Native.Nat.{_-_}
+use Prim.Native.Nat.{_-_, _<_, _^_}
 use native.Mathlib.Omega.{arith}
 use borrow.Author.Needs.{needs}
 use lib.ListN.{length}
+use denote.Ref.{now}
 use Rattle.bench.proofs.PrintLaws.{Printing, begins, passed, stopped, finished}
 use Rattle.bench.proofs.print.print_part.Statement.{statement}
 use Rattle.bench.proofs.print.print_part.Tie as tie
@@ -35,12 +36,18 @@ returns c =
     let l = called .before .before .before .loop in
     stopped _ _ _ _ (passed _ _ (l .after) (l .at) (l .inv) (called .print-some .result) (called .print-some .ensures) .next)
 
+-- what the type of the length holds; said of the start, before a pass brings more than `omega` reads
+long : (s : tie.Start Inv-loop μ-loop) → length (now (s .args .part)) < 2 ^ 64
+long s = omega arith
+
 add-at : tie.Need-add-at Inv-loop μ-loop
 add-at c =
     let called = c .before .before .before .before in
     let l = called .before .before .before .loop in
     let p = passed _ _ (l .after) (l .at) (l .inv) (called .print-some .result) (called .print-some .ensures) in
     let i = p .next .inside in
+    let known = called .before .before .before .before in
+    let h = long (known .before) in
     omega arith
 
 loop-less : tie.Need-loop-less Inv-loop μ-loop

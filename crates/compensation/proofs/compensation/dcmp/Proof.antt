@@ -14,9 +14,6 @@ offset-term-requires c κs = search needs
 add-result : tie.Need-add-result
 add-result c = omega arith
 
-cast-result : tie.Need-cast-result
-cast-result c = omega arith
-
 returns : tie.Need-returns
 unfolding dcmp
 returns c = omega arith
@@ -28,4 +25,4 @@ returns-2 c = omega arith
 pub dcmp-spec : {M : Type 1} → statement M
 dcmp-spec =
     tie.close
-    (tie.spec rate-term-requires offset-term-requires add-result cast-result returns returns-2)
+    (tie.spec rate-term-requires offset-term-requires add-result returns returns-2)

@@ -22,8 +22,8 @@ dcoff-requires c κs = search needs
 cast-result-2 : tie.Need-cast-result-2
 cast-result-2 c = search needs
 
-offset-within : (c : tie.After-dcoff) → 4_096 * c .before .dcgn .result * c .dcoff .result ≤ 4_096 * 31 * 7
-offset-within c = product-within (4_096 * 31) 7 (omega arith) (omega arith)
+offset-within : (c : tie.After-dcoff) → 131_072 * c .before .dcgn .result * c .dcoff .result ≤ 131_072 * 31 * 7
+offset-within c = product-within (131_072 * 31) 7 (omega arith) (omega arith)
 
 mul-result-2 : tie.Need-mul-result-2
 mul-result-2 c = omega (arith, offset-within c)
@@ -36,8 +36,8 @@ cast-result-3 c = search needs
 
 mul-result-3 : tie.Need-mul-result-3
 mul-result-3 c =
-    let h : 4_096 * c .before .before .dcgn .result * c .before .dcoff .result * c .ilmd .result ≤ 4_096 * 31 * 7 * 255 =
-    product-within (4_096 * 31 * 7) 255 (offset-within (c .before)) (omega arith) in
+    let h : 131_072 * c .before .before .dcgn .result * c .before .dcoff .result * c .ilmd .result ≤ 131_072 * 31 * 7 * 255 =
+    product-within (131_072 * 31 * 7) 255 (offset-within (c .before)) (omega arith) in
     omega arith
 
 returns : tie.Need-returns

@@ -7,8 +7,8 @@ use Rattle.numbers.proofs.ProductLaws.{product-within}
 use Rattle.compensation.proofs.compensation.rate_term.Statement.{statement}
 use Rattle.compensation.proofs.compensation.rate_term.Tie as tie
 
-dcgn-requires : tie.Need-dcgn-requires
-dcgn-requires c κs = search needs
+adcgn-requires : tie.Need-adcgn-requires
+adcgn-requires c κs = search needs
 
 cast-gain : tie.Need-cast-gain
 cast-gain c = search needs
@@ -28,14 +28,14 @@ cast-cold-2 c = search needs
 cold-within : (c : tie.After-dt) → c .before .tcgn .result * c .dt .result ≤ 34_720
 cold-within c = product-within 31 1_120 (omega arith) (omega arith)
 
-gain-within : (c : tie.After-dt) → c .before .before .before .args .current * c .before .before .dcgn .result ≤ 65_535 * 31
-gain-within c = product-within 65_535 31 (omega arith) (omega arith)
+gain-within : (c : tie.After-dt) → c .before .before .before .args .current * c .before .before .adcgn .result ≤ 65_535 * (31 * 380_867)
+gain-within c = product-within 65_535 (31 * 380_867) (omega arith) (omega arith)
 
 term-within : (c : tie.After-dt) →
-    c .before .before .before .args .current * c .before .before .dcgn .result
+    c .before .before .before .args .current * c .before .before .adcgn .result
     * (128 + c .before .tcgn .result * c .dt .result)
-    ≤ 65_535 * 31 * 34_848
-term-within c = product-within (65_535 * 31) 34_848 (gain-within c) (let h = cold-within c in omega arith)
+    ≤ 65_535 * (31 * 380_867) * 34_848
+term-within c = product-within (65_535 * (31 * 380_867)) 34_848 (gain-within c) (let h = cold-within c in omega arith)
 
 mul-cold : tie.Need-mul-cold
 mul-cold c = omega (arith, cold-within c)
@@ -57,7 +57,7 @@ pub rate-term-spec : {M : Type 1} → statement M
 rate-term-spec =
     tie.close
     (tie.spec
-    dcgn-requires
+    adcgn-requires
     cast-gain
     tcgn-requires
     cast-cold

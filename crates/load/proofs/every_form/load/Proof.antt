@@ -1,9 +1,10 @@
--- The form that the first byte tells. Assumes nothing.
-use mathlib.Core.Path.{_≡_, _∙_, sym}
-use Prim.Native.Nat.{ℕ}
-use lib.ListN.{getD}
+-- Each way answers what its tests pick, in the form that the first byte tells. Assumes nothing.
+use mathlib.Core.Path.{_∙_}
 use denote.Ref.{now}
-use Rattle.load.proofs.EveryFormLaws.{in-form-1, in-form-2, in-newest}
+use borrow.Author.Tests.{not-true, not-false}
+use Rattle.load.specs.EveryForm.{told}
+use Rattle.load.proofs.EveryFormLaws.{both-fit, carried, fit-length, held-misfit, is-told, misfit}
+use Rattle.load.proofs.LoadLaws.{misfit-loads, value-loads}
 use borrow.Author.Needs.{needs}
 use Rattle.load.proofs.every_form.load.Statement.{statement}
 use Rattle.load.proofs.every_form.load.Tie as tie
@@ -14,40 +15,94 @@ cast-byte-at c = search needs
 byte-at-requires : tie.Need-byte-at-requires
 byte-at-requires c κs = search needs
 
-load-form-1-requires : tie.Need-load-form-1-requires
-load-form-1-requires c κs = search needs
+told-number-requires : tie.Need-told-number-requires
+told-number-requires c κs = search needs
+
+told-length-requires : tie.Need-told-length-requires
+told-length-requires c κs = search needs
+
+in-form-requires : tie.Need-in-form-requires
+in-form-requires c κs = search needs
+
+rejected-requires : tie.Need-rejected-requires
+rejected-requires c κs = search needs
 
 returns : tie.Need-returns
 returns c =
-    let p = c .before in
-    let q = p .before in
-    c .load-form-1 .ensures ∙ in-form-1 (now (q .before .before .args .bytes)) (sym (q .byte-at .ensures) ∙ p .if1 .taken)
+    let i = c .before in
+    let f = i .before in
+    let l = f .before in
+    let n = l .before in
+    let b = n .before in
+    let bytes = now (b .before .before .args .bytes) in
+    let e = b .byte-at .ensures in
+    let p = n .told-number .ensures in
+    let q = l .told-length .ensures in
+    let t = f .in-form .ensures in
+    misfit-loads (told (b .byte-at .result)) bytes (misfit bytes e p q t (not-true _ (i .if1 .taken))) (c .rejected .ensures) ∙ is-told bytes e p q t
 
-load-form-2-requires : tie.Need-load-form-2-requires
-load-form-2-requires c κs = search needs
+decoded-in-newest-requires : tie.Need-decoded-in-newest-requires
+decoded-in-newest-requires c κs =
+    let f = c .before in
+    let l = f .before in
+    let n = l .before in
+    let b = n .before in
+    fit-length (now (b .before .before .args .bytes)) (b .byte-at .ensures) (n .told-number .ensures) (l .told-length .ensures) (f .in-form .ensures)
+    (not-false _ (c .if1 .left))
 
-module _ (c : tie.After-byte-at) where
-  not-first : {number : ℕ} → (c .byte-at .result ≡ number → ⊥) → getD (now (c .before .before .args .bytes)) 0 0 ≡ number → ⊥
-  not-first n e = n (c .byte-at .ensures ∙ e)
+held-fits-requires : tie.Need-held-fits-requires
+held-fits-requires c κs = search needs
+
+rejected-requires-2 : tie.Need-rejected-requires-2
+rejected-requires-2 c κs = search needs
 
 returns-2 : tie.Need-returns-2
 returns-2 c =
-    let p = c .before in
-    let r = p .before in
-    let q = r .before in
-    c .load-form-2 .ensures
-    ∙ in-form-2 (now (q .before .before .args .bytes)) (not-first q (r .if1 .left)) (sym (q .byte-at .ensures) ∙ p .if2 .taken)
+    let k = c .before in
+    let h = k .before in
+    let d = h .before .before in
+    let i = d .before in
+    let f = i .before in
+    let l = f .before in
+    let n = l .before in
+    let b = n .before in
+    let bytes = now (b .before .before .args .bytes) in
+    let e = b .byte-at .ensures in
+    let p = n .told-number .ensures in
+    let q = l .told-length .ensures in
+    let t = f .in-form .ensures in
+    let no =
+    held-misfit bytes e p q t (not-false _ (i .if1 .left)) (d .decoded-in-newest .ensures) (h .held-fits .ensures .0) (not-true _ (k .if2 .taken)) in
+    misfit-loads (told (b .byte-at .result)) bytes no (c .rejected2 .ensures) ∙ is-told bytes e p q t
 
-load-newest-requires : tie.Need-load-newest-requires
-load-newest-requires c κs = search needs
+carried-standby-requires : tie.Need-carried-standby-requires
+carried-standby-requires c κs = λ first. c .before .held-fits .ensures .1 first (not-false _ (c .if2 .left))
+
+unless-rejected-requires : tie.Need-unless-rejected-requires
+unless-rejected-requires c κs = search needs
 
 returns-3 : tie.Need-returns-3
 returns-3 c =
-    let p = c .before in
-    let r = p .before in
-    let q = r .before in
-    c .load-newest .ensures
-    ∙ in-newest (now (q .before .before .args .bytes)) (not-first q (r .if1 .left)) (not-first q (p .if2 .left))
+    let s = c .before in
+    let k = s .before in
+    let h = k .before in
+    let d = h .before .before in
+    let i = d .before in
+    let f = i .before in
+    let l = f .before in
+    let n = l .before in
+    let b = n .before in
+    let bytes = now (b .before .before .args .bytes) in
+    let e = b .byte-at .ensures in
+    let p = n .told-number .ensures in
+    let q = l .told-length .ensures in
+    let t = f .in-form .ensures in
+    let fit = not-false _ (i .if1 .left) in
+    let g = d .decoded-in-newest .ensures in
+    let held = h .held-fits .ensures .0 in
+    value-loads (told (b .byte-at .result)) bytes (both-fit bytes e p q t fit g held (not-false _ (k .if2 .left)))
+    (carried bytes e p q t fit g held (s .carried-standby .ensures)) (c .unless-rejected .ensures)
+    ∙ is-told bytes e p q t
 
 pub load-spec : {M : Type 1} → statement M
 load-spec =
@@ -55,9 +110,15 @@ load-spec =
     (tie.spec
     cast-byte-at
     byte-at-requires
-    load-form-1-requires
+    told-number-requires
+    told-length-requires
+    in-form-requires
+    rejected-requires
     returns
-    load-form-2-requires
+    decoded-in-newest-requires
+    held-fits-requires
+    rejected-requires-2
     returns-2
-    load-newest-requires
+    carried-standby-requires
+    unless-rejected-requires
     returns-3)

@@ -1,5 +1,6 @@
 -- Each group of pairs is what its function ensures; the pairs between are 0. Assumes nothing.
 use mathlib.Core.Path.{refl}
+use native.Mathlib.Omega.{arith}
 use Rattle.registers.specs.Map.{lookUp, register, rows}
 use Rattle.registers.proofs.MapLaws.{configuration-shown, shows-nothing, shows-pair}
 use Rattle.registers.proofs.map.pair_at.Statement.{statement}
@@ -33,22 +34,31 @@ returns-4 c =
     shows-pair (p .before .before .before .before .args .gauge) (p .if4 .taken) (c .e1 .ensures) (c .e1 .ok) refl
 
 returns-5 : tie.Need-returns-5
+unfolding register lookUp rows
 returns-5 c =
-    let p = c .before in
+    let g = c .before .before .before .before .before .args .gauge in
+    shows-pair g (c .if5 .taken) refl (omega arith) refl
+
+returns-6 : tie.Need-returns-6
+returns-6 c =
+    let o = c .before in
+    let p = o .before in
     let q = p .before in
     let a = q .before .before .before .args in
-    shows-nothing (a .gauge) (a .pair) (q .if3 .left) (p .if4 .left) (c .if5 .taken)
+    shows-nothing (a .gauge) (a .pair) (q .if3 .left) (p .if4 .left) (o .if5 .left) (c .if6 .taken)
 
 configuration-pair-requires : tie.Need-configuration-pair-requires
 configuration-pair-requires c κs =
     let p = c .before in
-    (p .if5 .left, p .before .before .before .before .before .pre .1)
+    let q = p .before .before .before in
+    (p .if6 .left, q .before .before .before .pre .1)
 
-returns-6 : tie.Need-returns-6
-returns-6 c =
+returns-7 : tie.Need-returns-7
+returns-7 c =
     let p = c .before .before in
-    let s = p .before .before .before .before .before in
-    configuration-shown (s .args .gauge) (p .if5 .left) (s .pre .1) (c .configuration-pair .ensures)
+    let q = p .before .before .before in
+    let s = q .before .before .before in
+    configuration-shown (s .args .gauge) (p .if6 .left) (s .pre .1) (c .configuration-pair .ensures)
 
 pub pair-at-spec : {M : Type 1} → statement M
 pair-at-spec =
@@ -63,5 +73,6 @@ pair-at-spec =
     e1-requires
     returns-4
     returns-5
+    returns-6
     configuration-pair-requires
-    returns-6)
+    returns-7)

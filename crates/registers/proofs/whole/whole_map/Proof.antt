@@ -39,16 +39,20 @@ e1-requires c κs = tt
 put-pair-requires : tie.Need-put-pair-requires
 put-pair-requires c κs = search needs
 
+put-pair-requires-2 : tie.Need-put-pair-requires-2
+put-pair-requires-2 c κs = search needs
+
 returns : tie.Need-returns
 returns c =
     let capacities = c .before .before in
     let host = capacities .before .before in
-    let cedv = host .before .before in
+    let cyct = host .before .before in
+    let cedv = cyct .before .before in
     let e1 = cedv .before in
     let put = e1 .before .before .before in
     let s = put .before .before .before .before in
     let p = put .put-configuration in
-    whole-stored (s .args .gauge) (p .last .1 .0) (ten s) (p .ensures .1) (p .ensures .0) (e1 .e1 .ensures) (cedv .put-pair .ensures)
+    whole-stored (s .args .gauge) (p .last .1 .0) (ten s) (p .ensures .1) (p .ensures .0) (e1 .e1 .ensures) (cedv .put-pair .ensures) (cyct .put-pair2 .ensures)
     (host .put-host .ensures) (capacities .put-capacities .ensures) (c .put-currents .ensures)
 
 pub whole-map-spec : {M : Type 1} → statement M
@@ -62,6 +66,7 @@ whole-map-spec =
     put-configuration-requires
     e1-requires
     put-pair-requires
+    put-pair-requires-2
     put-host-requires
     put-capacities-requires
     put-currents-requires

@@ -21,7 +21,7 @@ fits c =
       temperature = omega arith;
       ar = omega arith;
       mode = omega arith;
-      counters = record { rests = omega arith };
+      counters = record { rests = omega arith; cyct = omega arith; drain = omega arith };
     }
 
 slice-aggregate-save : tie.Need-slice-aggregate-save

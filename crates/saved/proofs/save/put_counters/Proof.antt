@@ -1,5 +1,7 @@
--- The field. Assumes nothing.
-use Rattle.saved.specs.Put.{countersPut}
+-- The fields, one after the other. Assumes nothing.
+use mathlib.Core.Path.{_∙_, ap}
+use Rattle.form.specs.Form.{CycleDrain, Cyct}
+use Rattle.saved.specs.Put.{countersPut, numberPut}
 use borrow.Author.Needs.{needs}
 use Rattle.saved.proofs.save.put_counters.Statement.{statement}
 use Rattle.saved.proofs.save.put_counters.Tie as tie
@@ -7,9 +9,19 @@ use Rattle.saved.proofs.save.put_counters.Tie as tie
 put-two-requires : tie.Need-put-two-requires
 put-two-requires c κs = search needs
 
+put-two-requires-2 : tie.Need-put-two-requires-2
+put-two-requires-2 c κs = search needs
+
+put-eight-requires : tie.Need-put-eight-requires
+put-eight-requires c κs = search needs
+
 returns : tie.Need-returns
 unfolding countersPut
-returns c = c .put-two .ensures
+returns c =
+    let p = c .before .before in
+    let q = p .before .before in
+    let x = q .before .before .args .counters in
+    c .put-eight .ensures ∙ ap (numberPut CycleDrain (x .cycles .drain)) (p .put-two2 .ensures ∙ ap (numberPut Cyct (x .cycles .cyct)) (q .put-two .ensures))
 
 pub put-counters-spec : {M : Type 1} → statement M
-put-counters-spec = tie.close (tie.spec put-two-requires returns)
+put-counters-spec = tie.close (tie.spec put-two-requires put-two-requires-2 put-eight-requires returns)

@@ -1,0 +1,84 @@
+-- Each row holds by computation. Assumes nothing.
+use mathlib.Core.Path.{refl}
+use Rattle.charge.specs.Charge.{chargeAccepted, emptied, filled, heldMoved, leaked, moved, openedCharge, runMoved, taught, withoutRun}
+use Rattle.charge.specs.Obeyed.{chargeObeyed, writtenLmd, writtenNac}
+use Rattle.charge.specs.Rest.{rested, restedOnce}
+use Rattle.command.specs.Command.{decide, decide56, decideA9, highestCommandBit, isReset}
+use Rattle.compensation.specs.Compensation.{adcgn, dcmp, dt, minutes, offsetTerm, rateTerm}
+use Rattle.configuration.specs.Configuration.{dcompTaken, openedMode}
+use Rattle.counters.specs.Counters.{countersAccepted, countersMoved, countersObeyed, countersRested, openedCounters}
+use Rattle.counters.specs.Cycles.{cyclesAccepted, cyclesMoved, cyctAfter, drainWith, noCycles}
+use Rattle.flags.specs.Flags.{atTaught, clearedIf, flagsObeyed}
+use Rattle.gauge.specs.Accepted.{accepted}
+use Rattle.gauge.specs.Calls.{restAnswer, storedAt, windowAnswer, writeAnswer, writeRefusal, written}
+use Rattle.gauge.specs.Obey.{decided, obeyed}
+use Rattle.gauge.specs.Opening.{openAnswer, openRefusal, opened}
+use Rattle.gauge.specs.Rest.{rest}
+use Rattle.gauge.specs.Window.{reachedIn, summed, window}
+use Rattle.grains.specs.Leak.{band, leak, leakRate, reached, weight}
+use Rattle.grains.specs.Learning.{learned}
+use Rattle.grains.specs.Run.{drained, runAccepted, unlessPassed}
+use Rattle.host.specs.Host.{commanded, commandsCleared, fullIf, hostObeyed, initCleared, openedHost, stored}
+use Rattle.reached.specs.Ending.{endingOf, mayTeach}
+use Rattle.reached.specs.Full.{isFull}
+use Rattle.reached.specs.Reached.{chargeEnded, chargeReached, filledIf, flagsEnded, reachedBy}
+use Rattle.registers.specs.Map.{lookUp, register, rows}
+use Rattle.registers.specs.Times.{artte, tte}
+use Rattle.registers.specs.Values.{cac, fcac, reduction}
+use Rattle.sample.specs.Current.{charge, counted, discharge}
+use Rattle.sample.specs.Limits.{zeroOrWithin}
+use Rattle.sample.specs.Range.{between, currentInRange, valueBetween}
+use Rattle.sample.specs.Sample.{currentAccepted, noSample, sampleAccepted, sampleReset, sampleRested}
+use Rattle.standby.specs.Standby.{averaged, standbyAccepted, standbyReset}
+use Rattle.examples.proofs.proved_cycles.Statement.{statement}
+use Rattle.examples.proofs.proved_cycles.Tie as tie
+
+returns : tie.Need-returns
+unfolding chargeAccepted emptied filled heldMoved leaked moved openedCharge runMoved withoutRun chargeObeyed writtenLmd writtenNac rested
+    restedOnce decide decide56 decideA9 highestCommandBit isReset openedMode countersMoved countersObeyed countersRested openedCounters
+    clearedIf flagsObeyed accepted restAnswer storedAt windowAnswer writeAnswer writeRefusal
+    written decided obeyed openAnswer openRefusal opened rest reachedIn summed window band leak leakRate reached weight drained runAccepted
+    unlessPassed commanded commandsCleared fullIf hostObeyed initCleared openedHost stored endingOf isFull chargeEnded
+    chargeReached filledIf flagsEnded reachedBy charge counted discharge zeroOrWithin between currentInRange valueBetween currentAccepted noSample
+    sampleAccepted sampleReset sampleRested averaged standbyAccepted standbyReset
+    countersAccepted cyclesAccepted noCycles cyclesMoved cyctAfter drainWith
+    adcgn dcmp dt minutes offsetTerm rateTerm dcompTaken lookUp register rows artte tte cac fcac reduction learned mayTeach taught atTaught
+returns c =
+    record {
+      drain-796 = refl;
+      wrtlmd-keeps = refl;
+      rest-keeps = refl;
+      seven = refl;
+      shown-7 = refl;
+      high-0 = refl;
+      charging-counts = refl;
+      prst-keeps = refl;
+      frst-clears = refl;
+      taught = refl;
+      before-taught = refl;
+      after-taught = refl;
+      stays = refl;
+      stops = refl;
+      not-whole = refl;
+      whole = refl;
+      without-gaf = refl;
+      first-quotient = refl;
+      gaf-low-bits = refl;
+      quotient-5 = refl;
+      taken-6C = refl;
+      quotient-5-cold = refl;
+      gaf-1 = refl;
+      gaf-2 = refl;
+      greatest = refl;
+      old-cyct = refl;
+      old-cac = refl;
+      new-cac = refl;
+      old-fcac = refl;
+      old-tte = refl;
+      new-tte = refl;
+      old-artte = refl;
+      new-artte = refl;
+    }
+
+pub proved-cycles-spec : {M : Type 1} → statement M
+proved-cycles-spec = tie.close (tie.spec returns)

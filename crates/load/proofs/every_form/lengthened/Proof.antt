@@ -1,0 +1,99 @@
+-- Each copy fills the front of the zeros. Assumes nothing.
+use mathlib.Core.List.{List}
+use mathlib.Core.Path.{_≡_, refl, sym, ap, _∙_}
+use Prim.Native.Nat.{ℕ}
+use native.Mathlib.Omega.{arith}
+use lib.ListN.{length, take}
+use denote.Ref.{now}
+use Rattle.load.proofs.LengthenedLaws.{all-taken, copied, shortest}
+use borrow.Author.Needs.{needs}
+use Rattle.load.proofs.every_form.lengthened.Statement.{statement}
+use Rattle.load.proofs.every_form.lengthened.Tie as tie
+
+cast-if1 : tie.Need-cast-if1
+cast-if1 c = search needs
+
+slice-aggregate-copy : tie.Need-slice-aggregate-copy
+slice-aggregate-copy c = search needs
+
+copy-requires : tie.Need-copy-requires
+copy-requires c κs = search needs
+
+returns : tie.Need-returns
+returns c =
+    let p = c .before in
+    let i = p .before .before in
+    copied (now (i .before .before .args .bytes)) refl (p .copy .ensures .1)
+
+cast-if2 : tie.Need-cast-if2
+cast-if2 c = search needs
+
+slice-aggregate-copy-2 : tie.Need-slice-aggregate-copy-2
+slice-aggregate-copy-2 c = search needs
+
+copy-requires-2 : tie.Need-copy-requires-2
+copy-requires-2 c κs = search needs
+
+returns-2 : tie.Need-returns-2
+returns-2 c =
+    let p = c .before in
+    let i = p .before .before .before in
+    copied (now (i .before .before .args .bytes)) refl (p .copy2 .ensures .1)
+
+cast-copy : tie.Need-cast-copy
+cast-copy c = search needs
+
+module _ (c : tie.After-copy-arg) where
+  bytes : List ℕ
+  bytes = now (c .before .before .before .before .args .bytes)
+
+  -- what is left is as long as form 1
+  left : length bytes ≡ 41
+  unfolding bytes
+  left =
+      let j = c .before in
+      let i = j .before in
+      let s = i .before .before in
+      shortest (s .args .first) (s .pre) (i .if1 .left) (j .if2 .left)
+
+  front : take 41 bytes ≡ bytes
+  front = all-taken 41 bytes left
+
+  part : 41 ≡ length (take 41 bytes)
+  part = sym (ap length front ∙ left)
+
+slice-aggregate-copy-3 : tie.Need-slice-aggregate-copy-3
+unfolding bytes
+slice-aggregate-copy-3 c = part c
+
+slice-aggregate-copy-4 : tie.Need-slice-aggregate-copy-4
+slice-aggregate-copy-4 c = search needs
+
+copy-requires-3 : tie.Need-copy-requires-3
+unfolding bytes
+copy-requires-3 c κs = let h = part (c .before) in omega arith
+
+returns-3 : tie.Need-returns-3
+unfolding bytes
+returns-3 c =
+    let p = c .before in
+    let f = p .before .before in
+    copied (bytes f) (front f) (p .copy3 .ensures .1)
+
+pub lengthened-spec : {M : Type 1} → statement M
+lengthened-spec =
+    tie.close
+    (tie.spec
+    cast-if1
+    slice-aggregate-copy
+    copy-requires
+    returns
+    cast-if2
+    slice-aggregate-copy-2
+    copy-requires-2
+    returns-2
+    cast-copy
+    slice-aggregate-copy-3
+    slice-aggregate-copy-4
+    copy-requires-3
+    returns-3)
