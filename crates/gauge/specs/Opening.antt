@@ -18,7 +18,7 @@ use Rattle.gauge.specs.declared.answer.Answer.{Answer}
 use Rattle.gauge.specs.declared.state.Gauge.{Gauge}
 
 -- "LMD = design capacity, h, DCR, c, IAV, AR, VOLT, TEMP 0 .. flags only CI", MODE as opened; SI "opening at 16 × S0" (A1 of paper 02); nothing
--- counted yet (A4)
+-- counted yet (A4, A5)
 unfoldable pub opened : List ℕ → Gauge
 opened c =
     record {
