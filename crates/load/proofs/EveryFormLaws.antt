@@ -95,24 +95,30 @@ told-shorter first e = let h = each-form first .shorter in omega arith
 
 -- ---- the ways of a load, by what each callee gives
 
-module _ (bytes : List ℕ) {first number long : ℕ} {fit : Bool} (e : first ≡ getD bytes 0 0) (n : number ≡ (told first) .number)
-    (l : long ≡ toldLength first) (f : fit ≡ fitsAs number long newest bytes) where
+-- the first byte, the number and the length that it tells, and the test of both
+pub record Tested (bytes : List ℕ) (b n l : ℕ) (test : Bool) : Type 0 where
+  pub first : b ≡ getD bytes 0 0
+  pub number : n ≡ (told b) .number
+  pub long : l ≡ toldLength b
+  pub fit : test ≡ fitsAs n l newest bytes
+
+module _ {bytes : List ℕ} {first number long : ℕ} {fit : Bool} (k : Tested bytes first number long fit) where
   read : ReadInNewest (told first) (inUnits first)
   read = each-form first
 
   pub is-told : answerIn (told first) bytes ≡ loadAnswer bytes
   unfolding loadAnswer
-  is-told = ap (λ (k : ℕ). answerIn (told k) bytes) e
+  is-told = ap (λ (n : ℕ). answerIn (told n) bytes) (k .first)
 
   fit-is : fit ≡ fitsAs ((told first) .number) (toldLength first) (told first) bytes
   unfolding read
   fit-is =
-      f ∙ ap (λ (k : ℕ). fitsAs k long newest bytes) n ∙ ap (λ (k : ℕ). fitsAs ((told first) .number) k newest bytes) l ∙ sym (read .fits bytes)
+      k .fit ∙ ap (λ (n : ℕ). fitsAs n long newest bytes) (k .number) ∙ ap (λ (n : ℕ). fitsAs ((told first) .number) n newest bytes) (k .long)
+      ∙ sym (read .fits bytes)
 
   pub misfit : fit ≡ false → formFits (told first) bytes ≡ false
   unfolding formFits
-  misfit z =
-      ap (λ (t : Bool). standbyFits (told first) bytes && t) (sym fit-is ∙ z) ∙ and-false (standbyFits (told first) bytes)
+  misfit z = ap (λ (t : Bool). standbyFits (told first) bytes && t) (sym fit-is ∙ z) ∙ and-false (standbyFits (told first) bytes)
 
   module _ (good : fit ≡ true) where
     pub fit-length : length bytes ≡ toldLength first
@@ -136,4 +142,4 @@ module _ (bytes : List ℕ) {first number long : ℕ} {fit : Bool} (e : first �
       pub carried : {s : ℕ} → s ≡ carriedStandby first (g .standby) → withStandby s g ≡ loaded (told first) bytes
       unfolding read carriedStandby
       carried c =
-          ap (λ (k : ℕ). withStandby k g) c ∙ ap (λ (x : Gauge). withStandby (carriedStandby first (x .standby)) x) p ∙ read .gauge bytes fit-length
+          ap (λ (n : ℕ). withStandby n g) c ∙ ap (λ (x : Gauge). withStandby (carriedStandby first (x .standby)) x) p ∙ read .gauge bytes fit-length

@@ -28,7 +28,7 @@ gaf-requires c κs = search needs
 cast-aged-2 : tie.Need-cast-aged-2
 cast-aged-2 c = search needs
 
-aged : (c : tie.After-gaf) → 32 + c .before .tcgn .result * (c .before .before .args .cyct / 16) * c .gaf .result ≤ 380_867
+aged : (c : tie.After-gaf) → let t = c .before in 32 + t .tcgn .result * (t .before .args .cyct / 16) * c .gaf .result ≤ 380_867
 aged c = aged-within (omega arith) (omega arith) (omega arith)
 
 mul-aged-2 : tie.Need-mul-aged-2
@@ -44,7 +44,9 @@ add-result : tie.Need-add-result
 add-result c = omega (arith, aged (c .before))
 
 within : (c : tie.After-dcgn) →
-    c .dcgn .result * (32 + c .before .before .tcgn .result * (c .before .before .before .args .cyct / 16) * c .before .gaf .result) ≤ 31 * 380_867
+    let g = c .before in
+    let t = g .before in
+    c .dcgn .result * (32 + t .tcgn .result * (t .before .args .cyct / 16) * g .gaf .result) ≤ 31 * 380_867
 within c = product-within 31 380_867 (omega arith) (aged (c .before))
 
 mul-result : tie.Need-mul-result

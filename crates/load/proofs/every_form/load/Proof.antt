@@ -2,8 +2,7 @@
 use mathlib.Core.Path.{_∙_}
 use denote.Ref.{now}
 use borrow.Author.Tests.{not-true, not-false}
-use Rattle.load.specs.EveryForm.{told}
-use Rattle.load.proofs.EveryFormLaws.{both-fit, carried, fit-length, held-misfit, is-told, misfit}
+use Rattle.load.proofs.EveryFormLaws.{Tested, both-fit, carried, fit-length, held-misfit, is-told, misfit}
 use Rattle.load.proofs.LoadLaws.{misfit-loads, value-loads}
 use borrow.Author.Needs.{needs}
 use Rattle.load.proofs.every_form.load.Statement.{statement}
@@ -27,28 +26,25 @@ in-form-requires c κs = search needs
 rejected-requires : tie.Need-rejected-requires
 rejected-requires c κs = search needs
 
+-- what the test of the form was given, and what it says
+tested : (f : tie.After-in-form) →
+    let l = f .before in
+    let n = l .before in
+    let b = n .before in
+    Tested (now (b .before .before .args .bytes)) (b .byte-at .result) (n .told-number .result) (l .told-length .result) (f .in-form .result)
+tested f =
+    let l = f .before in
+    let n = l .before in
+    record { first = n .before .byte-at .ensures; number = n .told-number .ensures; long = l .told-length .ensures; fit = f .in-form .ensures }
+
 returns : tie.Need-returns
 returns c =
     let i = c .before in
-    let f = i .before in
-    let l = f .before in
-    let n = l .before in
-    let b = n .before in
-    let bytes = now (b .before .before .args .bytes) in
-    let e = b .byte-at .ensures in
-    let p = n .told-number .ensures in
-    let q = l .told-length .ensures in
-    let t = f .in-form .ensures in
-    misfit-loads (told (b .byte-at .result)) bytes (misfit bytes e p q t (not-true _ (i .if1 .taken))) (c .rejected .ensures) ∙ is-told bytes e p q t
+    let k = tested (i .before) in
+    misfit-loads _ _ (misfit k (not-true _ (i .if1 .taken))) (c .rejected .ensures) ∙ is-told k
 
 decoded-in-newest-requires : tie.Need-decoded-in-newest-requires
-decoded-in-newest-requires c κs =
-    let f = c .before in
-    let l = f .before in
-    let n = l .before in
-    let b = n .before in
-    fit-length (now (b .before .before .args .bytes)) (b .byte-at .ensures) (n .told-number .ensures) (l .told-length .ensures) (f .in-form .ensures)
-    (not-false _ (c .if1 .left))
+decoded-in-newest-requires c κs = fit-length (tested (c .before)) (not-false _ (c .if1 .left))
 
 held-fits-requires : tie.Need-held-fits-requires
 held-fits-requires c κs = search needs
@@ -58,22 +54,14 @@ rejected-requires-2 c κs = search needs
 
 returns-2 : tie.Need-returns-2
 returns-2 c =
-    let k = c .before in
-    let h = k .before in
+    let j = c .before in
+    let h = j .before in
     let d = h .before .before in
     let i = d .before in
-    let f = i .before in
-    let l = f .before in
-    let n = l .before in
-    let b = n .before in
-    let bytes = now (b .before .before .args .bytes) in
-    let e = b .byte-at .ensures in
-    let p = n .told-number .ensures in
-    let q = l .told-length .ensures in
-    let t = f .in-form .ensures in
-    let no =
-    held-misfit bytes e p q t (not-false _ (i .if1 .left)) (d .decoded-in-newest .ensures) (h .held-fits .ensures .0) (not-true _ (k .if2 .taken)) in
-    misfit-loads (told (b .byte-at .result)) bytes no (c .rejected2 .ensures) ∙ is-told bytes e p q t
+    let k = tested (i .before) in
+    misfit-loads _ _ (held-misfit k (not-false _ (i .if1 .left)) (d .decoded-in-newest .ensures) (h .held-fits .ensures .0) (not-true _ (j .if2 .taken)))
+    (c .rejected2 .ensures)
+    ∙ is-told k
 
 carried-standby-requires : tie.Need-carried-standby-requires
 carried-standby-requires c κs = λ first. c .before .held-fits .ensures .1 first (not-false _ (c .if2 .left))
@@ -84,25 +72,16 @@ unless-rejected-requires c κs = search needs
 returns-3 : tie.Need-returns-3
 returns-3 c =
     let s = c .before in
-    let k = s .before in
-    let h = k .before in
+    let j = s .before in
+    let h = j .before in
     let d = h .before .before in
     let i = d .before in
-    let f = i .before in
-    let l = f .before in
-    let n = l .before in
-    let b = n .before in
-    let bytes = now (b .before .before .args .bytes) in
-    let e = b .byte-at .ensures in
-    let p = n .told-number .ensures in
-    let q = l .told-length .ensures in
-    let t = f .in-form .ensures in
+    let k = tested (i .before) in
     let fit = not-false _ (i .if1 .left) in
     let g = d .decoded-in-newest .ensures in
     let held = h .held-fits .ensures .0 in
-    value-loads (told (b .byte-at .result)) bytes (both-fit bytes e p q t fit g held (not-false _ (k .if2 .left)))
-    (carried bytes e p q t fit g held (s .carried-standby .ensures)) (c .unless-rejected .ensures)
-    ∙ is-told bytes e p q t
+    value-loads _ _ (both-fit k fit g held (not-false _ (j .if2 .left))) (carried k fit g held (s .carried-standby .ensures)) (c .unless-rejected .ensures)
+    ∙ is-told k
 
 pub load-spec : {M : Type 1} → statement M
 load-spec =

@@ -18,7 +18,7 @@ saturating-sum-requires : tie.Need-saturating-sum-requires
 saturating-sum-requires c κs = search needs
 
 module _ (c : tie.After-saturating-sum) where
-  drain-is : c .saturating-sum .result ≡ drainWith (c .before .before .before .args .current) (c .before .before .before .args .self .drain)
+  drain-is : let a = c .before .before .before .args in c .saturating-sum .result ≡ drainWith (a .current) (a .self .drain)
   drain-is =
       let g = c .before in
       let d = g .before in

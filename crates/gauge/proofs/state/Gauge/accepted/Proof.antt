@@ -1,8 +1,14 @@
 -- Each way returns what its tests pick. Assumes nothing.
-use mathlib.Core.Path.{ap, _∙_, sym}
+use mathlib.Core.Bool.{Bool, true, false}
+use mathlib.Core.Path.{_≡_, ap, _∙_, sym}
 use Prim.Native.Nat.{ℕ}
+use lib.Dec.{eqb}
 use borrow.Author.Tests.{eq-eqb, ne-eqb, not-true, not-false}
+use Rattle.charge.specs.Charge.{chargeAccepted}
+use Rattle.configuration.specs.Configuration.{dmf, ilmd, s0}
 use Rattle.sample.specs.Sample.{sampleAccepted}
+use Rattle.standby.specs.Standby.{standbyAccepted}
+use Rattle.gauge.specs.declared.state.Gauge.{Gauge}
 use Rattle.gauge.proofs.AcceptedLaws.{no-capacity, no-charge, no-sample, no-standby, last-test}
 use borrow.Author.Needs.{needs}
 use Rattle.gauge.proofs.state.Gauge.accepted.Statement.{statement}
@@ -19,26 +25,56 @@ returns c =
 accepted-requires : tie.Need-accepted-requires
 accepted-requires c κs = search needs
 
+-- what each test that was passed says of the gauge
+module _ (c : tie.After-accepted) where
+  gauge : Gauge
+  gauge = let q = c .before .before in q .before .before .args .self
+
+  opens : eqb (ilmd (gauge .configuration)) 0 ≡ false
+  unfolding gauge
+  opens =
+      let p = c .before in
+      let q = p .before in
+      ne-eqb _ _ (λ e. p .if1 .left (q .ilmd .ensures ∙ e))
+
+charged : (c : tie.After-standby-accepted) → let a = c .before .before in chargeAccepted (gauge a .charge) ≡ true
+unfolding gauge
+charged c =
+    let i = c .before in
+    sym (i .before .accepted .ensures) ∙ not-false _ (i .if2 .left)
+
+stands : (c : tie.After-dmf) → let a = c .before .before .before .before in standbyAccepted (s0 (gauge a .configuration)) (gauge a .standby) ≡ true
+unfolding gauge
+stands c =
+    let i = c .before in
+    sym (i .before .standby-accepted .ensures) ∙ not-false _ (i .if3 .left)
+
+sampled : {t : Bool} (c : tie.After-accepted2) → c .accepted2 .result ≡ t →
+    let s = c .before .before .before in
+    let a = s .before .before in
+    sampleAccepted (dmf (gauge a .configuration)) (gauge a .sample) ≡ t
+unfolding gauge
+sampled c e =
+    let d = c .before in
+    let s = d .before .before in
+    let a = s .before .before in
+    sym (c .accepted2 .ensures ∙ ap (λ (n : ℕ). sampleAccepted n (gauge a .sample)) (d .dmf .ensures .0)) ∙ e
+
 returns-2 : tie.Need-returns-2
+unfolding gauge
 returns-2 c =
-    let p = c .before .before in
-    let q = p .before in
-    no-charge (q .before .before .args .self) (ne-eqb _ _ (λ e. p .if1 .left (q .ilmd .ensures ∙ e)))
-    (sym (c .before .accepted .ensures) ∙ not-true _ (c .if2 .taken))
+    let a = c .before in
+    no-charge (gauge a) (opens a) (sym (a .accepted .ensures) ∙ not-true _ (c .if2 .taken))
 
 standby-accepted-requires : tie.Need-standby-accepted-requires
 standby-accepted-requires c κs = search needs
 
 returns-3 : tie.Need-returns-3
+unfolding gauge
 returns-3 c =
     let s = c .before in
-    let r = s .before in
-    let p = r .before .before in
-    let q = p .before in
-    let g = q .before .before .args .self in
-    no-standby g (ne-eqb _ _ (λ e. p .if1 .left (q .ilmd .ensures ∙ e)))
-    (sym (r .before .accepted .ensures) ∙ not-false _ (r .if2 .left))
-    (sym (s .standby-accepted .ensures) ∙ not-true _ (c .if3 .taken))
+    let a = s .before .before in
+    no-standby (gauge a) (opens a) (charged s) (sym (s .standby-accepted .ensures) ∙ not-true _ (c .if3 .taken))
 
 dmf-requires : tie.Need-dmf-requires
 dmf-requires c κs = search needs
@@ -47,37 +83,26 @@ accepted-requires-2 : tie.Need-accepted-requires-2
 accepted-requires-2 c κs = search needs
 
 returns-4 : tie.Need-returns-4
+unfolding gauge
 returns-4 c =
     let v = c .before in
-    let u = v .before .before in
-    let s = u .before in
-    let r = s .before in
-    let p = r .before .before in
-    let q = p .before in
-    let g = q .before .before .args .self in
-    no-sample g (ne-eqb _ _ (λ e. p .if1 .left (q .ilmd .ensures ∙ e)))
-    (sym (r .before .accepted .ensures) ∙ not-false _ (r .if2 .left))
-    (sym (s .standby-accepted .ensures) ∙ not-false _ (u .if3 .left))
-    (sym (v .accepted2 .ensures ∙ ap (λ (n : ℕ). sampleAccepted n (g .sample)) (v .before .dmf .ensures .0)) ∙ not-true _ (c .if4 .taken))
+    let d = v .before in
+    let s = d .before .before in
+    let a = s .before .before in
+    no-sample (gauge a) (opens a) (charged s) (stands d) (sampled v (not-true _ (c .if4 .taken)))
 
 accepted-requires-3 : tie.Need-accepted-requires-3
 accepted-requires-3 c κs = search needs
 
 returns-5 : tie.Need-returns-5
+unfolding gauge
 returns-5 c =
-    let w = c .before in
-    let v = w .before in
-    let u = v .before .before in
-    let s = u .before in
-    let r = s .before in
-    let p = r .before .before in
-    let q = p .before in
-    let g = q .before .before .args .self in
-    last-test g (ne-eqb _ _ (λ e. p .if1 .left (q .ilmd .ensures ∙ e)))
-    (sym (r .before .accepted .ensures) ∙ not-false _ (r .if2 .left))
-    (sym (s .standby-accepted .ensures) ∙ not-false _ (u .if3 .left))
-    (sym (v .accepted2 .ensures ∙ ap (λ (n : ℕ). sampleAccepted n (g .sample)) (v .before .dmf .ensures .0)) ∙ not-false _ (w .if4 .left))
-    (c .accepted3 .ensures)
+    let i = c .before in
+    let v = i .before in
+    let d = v .before in
+    let s = d .before .before in
+    let a = s .before .before in
+    last-test (gauge a) (opens a) (charged s) (stands d) (sampled v (not-false _ (i .if4 .left))) (c .accepted3 .ensures)
 
 pub accepted-spec : {M : Type 1} → statement M
 accepted-spec =
