@@ -1,5 +1,5 @@
 # shellcheck shell=bash disable=SC2154 # what tables.sh sets
-# For compare-estimate and check, which read this file after tables.sh: the tables of the picture of an estimate.
+# For compare-estimate, compare-shelf and check, which read this file after tables.sh: the tables of the picture of an estimate.
 
 # asked_table FOLDER: the stored table, asked of the gauge at every voltage: an empty one with LMD 1000, whose estimate is the permille. In
 # FOLDER/estimates the voltage is the second number of a line and the permille the third.
@@ -25,29 +25,37 @@ nac_before() {
     awk -v hour="$1" '$1 + 0 >= hour { exit } NF { nac = $2 } END { print nac }' "$2/curves"
 }
 
-# estimate_marks FOLDER: what gnuplot needs beside the tables, as its variables. `settings`: how many were left out. `given`: how many estimates there
-# are; if any, `first_hour` to `first_permille` of the first. `dark_hour`: when the handset goes dark after it, or -1; `dark_nac` and
-# `dark_without`: NAC before that, with the settings and without.
-estimate_marks() {
+# dark_marks FOLDER HOUR: gnuplot's variables for where the handset goes dark after that hour. `dark_hour`: when, or -1; `dark_nac` and `dark_without`: NAC
+# before that, with the settings and without.
+dark_marks() {
     local dark
+    dark=$(awk -v after="$2" '$1 > after { print $1; exit }' "$1/dark")
+    echo "dark_hour = ${dark:--1}"
+    [ -z "$dark" ] || printf 'dark_nac = %s\ndark_without = %s\n' "$(nac_before "$dark" "$1")" "$(nac_before "$dark" "$1/without")"
+}
+
+# estimate_marks FOLDER: what gnuplot needs beside the tables, as its variables. `settings`: how many were left out. `given`: how many estimates there
+# are; if any, `first_hour` to `first_permille` of the first. Then those of dark_marks after it; without an estimate there is no such place.
+estimate_marks() {
+    local first
     echo "settings = $(($(grep -c '^[^#]' "$1/table") - $(grep -c '^[^#]' "$1/without/table")))"
     echo "given = $(wc -l <"$1/given")"
     awk 'NR == 1 {
         print "first_hour = " $1 "\nfirst_voltage = " $2
         print "first_counts = " $3 "\nfirst_nac = " ($3 - $4) "\nfirst_permille = " $5
     }' "$1/given"
-    dark=$(awk 'NR == FNR { if (FNR == 1) first = $1; next } first != "" && $1 > first { print $1; exit }' "$1/given" "$1/dark")
-    echo "dark_hour = ${dark:--1}"
-    [ -z "$dark" ] || printf 'dark_nac = %s\ndark_without = %s\n' "$(nac_before "$dark" "$1")" "$(nac_before "$dark" "$1/without")"
+    first=$(awk 'NR == 1 { print $1 }' "$1/given")
+    if [ -n "$first" ]; then dark_marks "$1" "$first"; else echo "dark_hour = -1"; fi
 }
 
-# estimate_tables FOLDER LIST ..: all of them. FOLDER/given has hour, voltage, counts, distance and permille of each estimate.
+# estimate_tables SCRIPT FOLDER LIST ..: all of them. FOLDER/given has hour, voltage, counts, distance and permille of each estimate.
 estimate_tables() {
-    tables "$@"
-    every_call compare-estimate "$1"
-    asked_table "$1/asked"
-    without_settings "$1/table" >"$1/without.txt"
-    tables "$1/without" "$1/without.txt"
-    awk 'NR == FNR { permille[$2] = $3; next } { print $0, permille[$2] }' "$1/asked/estimates" "$1/estimates" >"$1/given"
-    estimate_marks "$1" >"$1/estimate-marks"
+    local folder="$2"
+    tables "${@:2}"
+    every_call "$1" "$folder"
+    asked_table "$folder/asked"
+    without_settings "$folder/table" >"$folder/without.txt"
+    tables "$folder/without" "$folder/without.txt"
+    awk 'NR == FNR { permille[$2] = $3; next } { print $0, permille[$2] }' "$folder/asked/estimates" "$folder/estimates" >"$folder/given"
+    estimate_marks "$folder" >"$folder/estimate-marks"
 }

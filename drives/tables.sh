@@ -21,6 +21,17 @@ takes_lists() {
     fi
 }
 
+# takes_name SCRIPT DEFAULT ARGUMENT ..: the arguments are the name of a list, or none for the default, and a picture: they become name and out, or
+# the script ends.
+# shellcheck disable=SC2034 # for the scripts
+takes_name() {
+    if [ $# -lt 3 ] || [ $# -gt 4 ] || [[ "${*: -1}" != *.png ]]; then
+        usage "$1 [NAME] OUT.png"
+    fi
+    name="$2" out="${*: -1}"
+    [ $# -eq 3 ] || name="$3"
+}
+
 # A folder for the tables of one run, which goes when the script ends.
 make_room() {
     room=$(mktemp -d)

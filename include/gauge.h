@@ -1,7 +1,7 @@
 /*
  * The battery gauge's eight calls for C (C99 and later) and C++ firmware.
  *
- * The firmware owns the gauge: 53 bytes that it keeps in RAM and copies to non-volatile memory as it likes. Every call
+ * The firmware owns the gauge: 55 bytes that it keeps in RAM and copies to non-volatile memory as it likes. Every call
  * gets those bytes and keeps nothing between calls: no writable static data, no allocation. So a gauge may be copied, and two
  * gauges may be used from two threads. One gauge must not be used by two calls at once, nor by an interrupt during a call.
  *
@@ -25,15 +25,15 @@ extern "C" {
 #endif
 
 /* The version of the calls and of this file; a new minor one adds, a new major one changes. */
-#define GAUGE_VERSION "4.0.0"
-#define GAUGE_VERSION_NUMBER 40000 /* 10000 * major + 100 * minor + the rest */
+#define GAUGE_VERSION "5.0.0"
+#define GAUGE_VERSION_NUMBER 50000 /* 10000 * major + 100 * minor + the rest */
 
 /* The form of the saved bytes, which is their first byte. gauge_convert also reads the older ones, from GAUGE_FORM_OLDEST on. */
-#define GAUGE_FORM 4
+#define GAUGE_FORM 5
 #define GAUGE_FORM_OLDEST 1
 
 #define GAUGE_CONFIGURATION_LENGTH 10
-#define GAUGE_SAVED_LENGTH 53
+#define GAUGE_SAVED_LENGTH 55
 #define GAUGE_REGISTERS 128
 
 /* What a call accepts. A value outside is refused, never cut to the range. */
@@ -42,7 +42,7 @@ extern "C" {
 #define GAUGE_VOLTAGE_MAX 4500
 #define GAUGE_TEMPERATURE_MIN 1012 /* quarter kelvins: -20 degrees Celsius */
 #define GAUGE_TEMPERATURE_MAX 1372 /* 70 degrees Celsius */
-#define GAUGE_REST_MAX 16875       /* windows of 5.12 s: one day */
+#define GAUGE_REST_MAX 506250      /* windows of 5.12 s: thirty days */
 
 /* What gauge_estimate asks for: windows of rest, 36 minutes of them, and a voltage that its table has. */
 #define GAUGE_ESTIMATE_REST_MIN 422     /* windows of rest since the last current */
@@ -51,7 +51,7 @@ extern "C" {
 #define GAUGE_ESTIMATE_VOLTAGE_STEP 4 /* from one entry of the table to the next */
 
 /* Where the gauge's count of rest windows stops. */
-#define GAUGE_REST_COUNT_MAX 65535
+#define GAUGE_REST_COUNT_MAX 4294967295u
 
 /* Where CYCT stops. The compensation ages in steps of so many cycles. */
 #define GAUGE_CYCLES_MAX 65535
@@ -64,14 +64,14 @@ enum gauge_refusal {
     GAUGE_REFUSED_CURRENT = 3,              /* outside -28011 to 28011 */
     GAUGE_REFUSED_VOLTAGE = 4,              /* outside 2600 to 4500 */
     GAUGE_REFUSED_TEMPERATURE = 5,          /* outside 1012 to 1372 */
-    GAUGE_REFUSED_REST_LENGTH = 6,          /* outside 1 to 16875 */
+    GAUGE_REFUSED_REST_LENGTH = 6,          /* outside 1 to 506250 */
     GAUGE_REFUSED_ADDRESS = 7,              /* not CTRL, MODE or AR */
     GAUGE_REFUSED_KEY = 8,                  /* at CTRL, neither 0xA9 nor 0x56 */
     GAUGE_REFUSED_NO_COMMAND = 9,           /* no command bit set in MODE */
     GAUGE_REFUSED_NOT_CARRIED = 10,         /* the command does not belong to this key */
     GAUGE_REFUSED_LMD_ZERO = 11,            /* WRTLMD with AR 0 */
     GAUGE_REFUSED_COUNT = 12,               /* count 0, or address + count above 128 */
-    GAUGE_REFUSED_REPLY = 13,               /* place + count beyond the reply; preview: not 128 bytes; open, convert: saved not 53 */
+    GAUGE_REFUSED_REPLY = 13,               /* place + count beyond the reply; preview: not 128 bytes; open, convert: saved not 55 */
     GAUGE_REFUSED_SAVED = 14,               /* the saved bytes are no gauge: damaged, cleared, of another length or form */
     GAUGE_REFUSED_NOT_RESTED = 15,          /* estimate: fewer than 422 rest windows since the last current, opening or reset */
     GAUGE_REFUSED_ESTIMATE_VOLTAGE = 16     /* estimate: outside 3000 to 4200, the table's range */
@@ -152,7 +152,7 @@ enum gauge_command_number {
 
 /*
  * Makes a new gauge from the ten configuration bytes (order 0x76 to 0x7F): empty, LMD = 256 * ILMD, CI set, nothing measured.
- * Success fills the 53 bytes at saved; what stood there does not matter.
+ * Success fills the 55 bytes at saved; what stood there does not matter.
  * Refuses, in this order: 1, 2, 13.
  */
 uint32_t gauge_open(const uint8_t *configuration, size_t configuration_length, uint8_t *saved, size_t saved_length);
@@ -161,7 +161,7 @@ uint32_t gauge_open(const uint8_t *configuration, size_t configuration_length, u
  * Brings bytes that an older version of the gauge saved over to GAUGE_FORM: charge, capacity, run, MODE, AR and all else as they
  * were, and 0 for what the older form does not have: the count of rest windows before form 3, the cycles before form 4. For a handset
  * whose firmware is updated while a gauge is in its memory: every other call answers 14 to an older form.
- * Bytes that already are of GAUGE_FORM come out the same. old is only read; success fills the 53 bytes at saved.
+ * Bytes that already are of GAUGE_FORM come out the same. old is only read; success fills the 55 bytes at saved.
  * Refuses, in this order: 14 (of the bytes at old), 13.
  */
 uint32_t gauge_convert(const uint8_t *old, size_t old_length, uint8_t *saved, size_t saved_length);
@@ -175,7 +175,7 @@ uint32_t gauge_convert(const uint8_t *old, size_t old_length, uint8_t *saved, si
 uint32_t gauge_window(uint8_t *saved, size_t saved_length, int32_t current, int32_t voltage, int32_t temperature);
 
 /*
- * Windows without current that were not measured one by one, 1 to 16875 of them, all at one temperature: the handset
+ * Windows without current that were not measured one by one, 1 to 506250 of them, all at one temperature: the handset
  * was off. Takes the cell's own leak; VOLT keeps its last value. Success leaves the gauge after the rest in saved, the same as after
  * as many rests of 1 at that temperature.
  * Refuses, in this order: 14, 6, 5.
@@ -230,6 +230,8 @@ static inline size_t gauge_form_length(uint8_t form)
         return 43;
     case 4:
         return 53;
+    case 5:
+        return 55;
     default:
         return 0;
     }

@@ -69,25 +69,32 @@ static const uint8_t leaking_pack[GAUGE_CONFIGURATION_LENGTH] = {
     0xFF, 0x5E, 0x77, 0x05, 0x2F, 0x10, 0x00, 0x00, 0x6C, 0x15,
 };
 
-/* A rest of the greatest length from DONE, named by the counts that it loses. */
-struct day_rest {
+/* The windows of a day, and of the longest rest, thirty days. */
+enum { DAY = 16875, MONTH = GAUGE_REST_MAX };
+
+/* A rest from DONE, named by the counts that it loses. */
+struct rest {
     const char *kind;
+    uint32_t windows;
     const uint8_t *pack;
     int32_t temperature;
 };
 
-static const struct day_rest day_rests[] = {
-    {"rest-2-counts", bench_pack, 1192},
-    {"rest-972-counts", leaking_pack, 1192},
-    {"rest-13929-counts", leaking_pack, 1372},
+static const struct rest rests[] = {
+    {"rest-2-counts", DAY, bench_pack, 1192},
+    {"rest-972-counts", DAY, leaking_pack, 1192},
+    {"rest-13929-counts", DAY, leaking_pack, 1372},
+    {"month-31-counts", MONTH, bench_pack, 1192},
+    {"month-23656-counts", MONTH, leaking_pack, 1192},
+    {"month-65231-counts", MONTH, leaking_pack, 1372},
 };
 
 /* NULL for a kind that is none of these. */
-static const struct day_rest *day_rest_of(const char *kind)
+static const struct rest *rest_of(const char *kind)
 {
-    for (size_t i = 0; i < sizeof day_rests / sizeof day_rests[0]; i++)
-        if (strcmp(kind, day_rests[i].kind) == 0)
-            return &day_rests[i];
+    for (size_t i = 0; i < sizeof rests / sizeof rests[0]; i++)
+        if (strcmp(kind, rests[i].kind) == 0)
+            return &rests[i];
     return NULL;
 }
 
@@ -104,10 +111,10 @@ static uint32_t bring_to_done(const uint8_t *pack)
 }
 
 /* The copy is the caller's code, the same with empty calls, so that it cancels too. */
-static uint32_t rest_from_done(int32_t temperature)
+static uint32_t rest_from_done(uint32_t windows, int32_t temperature)
 {
     memcpy(saved, at_done, sizeof saved);
-    return gauge_rest(saved, sizeof saved, GAUGE_REST_MAX, temperature);
+    return gauge_rest(saved, sizeof saved, windows, temperature);
 }
 
 /* The numbers of all calls are joined, so that a refused call, which would be shorter, cannot pass unseen. */
@@ -117,12 +124,12 @@ static uint32_t rest_from_done(int32_t temperature)
 
 static bool repeat_from_done(const char *kind, unsigned long times, uint32_t *numbers)
 {
-    const struct day_rest *rest = day_rest_of(kind);
+    const struct rest *rest = rest_of(kind);
 
     if (rest == NULL)
         return false;
     *numbers |= bring_to_done(rest->pack);
-    REPEAT(rest_from_done(rest->temperature));
+    REPEAT(rest_from_done(rest->windows, rest->temperature));
     return true;
 }
 
@@ -135,6 +142,8 @@ static bool repeat_convert(const char *kind, unsigned long times, uint32_t *numb
     else if (strcmp(kind, "convert-3") == 0)
         REPEAT(gauge_convert(kept_form_3, sizeof kept_form_3, converted, sizeof converted));
     else if (strcmp(kind, "convert-4") == 0)
+        REPEAT(gauge_convert(kept_form_4, sizeof kept_form_4, converted, sizeof converted));
+    else if (strcmp(kind, "convert-5") == 0)
         REPEAT(gauge_convert(saved, sizeof saved, converted, sizeof converted));
     else
         return false;
@@ -179,7 +188,7 @@ static bool repeat(const char *kind, unsigned long times, uint32_t *numbers)
     else if (strcmp(kind, "rest-100") == 0)
         REPEAT(gauge_rest(saved, sizeof saved, 100, 1192));
     else if (strcmp(kind, "rest-16875") == 0)
-        REPEAT(gauge_rest(saved, sizeof saved, 16875, 1192));
+        REPEAT(gauge_rest(saved, sizeof saved, DAY, 1192));
     else
         return repeat_convert(kind, times, numbers) || repeat_prepared(kind, times, numbers);
     return true;
@@ -196,12 +205,12 @@ static unsigned nac_of(const uint8_t *gauge, uint32_t *numbers)
 /* Prints the counts that one call of the kind loses. False for a kind that does not begin at DONE. */
 static bool print_lost(const char *kind, uint32_t *numbers)
 {
-    const struct day_rest *rest = day_rest_of(kind);
+    const struct rest *rest = rest_of(kind);
 
     if (rest == NULL)
         return false;
     *numbers |= bring_to_done(rest->pack);
-    *numbers |= rest_from_done(rest->temperature);
+    *numbers |= rest_from_done(rest->windows, rest->temperature);
     unsigned before = nac_of(at_done, numbers);
     unsigned after = nac_of(saved, numbers);
     printf("%u\n", before - after);

@@ -7,7 +7,10 @@
 #include <stdio.h>
 #include <string.h>
 
-enum { WINDOW_HUNDREDTHS = 512, TIME_ROOM = 32, NUMBER_WIDTH = 6, BYTES_A_LINE = 16 };
+enum { TIME_ROOM = 32, NUMBER_WIDTH = 6, BYTES_A_LINE = 16 };
+
+/* 25 windows of 5.12 s are 128 s to the hundredth. */
+enum { WINDOW_HUNDREDTHS = 512, WHOLE_WINDOWS = 25, WHOLE_SECONDS = 128 };
 
 /* Of a gauge that comes from an opening. A gauge made up by hand and loaded may have more flags, and its row is then longer. */
 enum { FLAGS_WIDTH = sizeof "CI+EDV1+EDVF" - 1, FLAGS_ROOM = sizeof "CHGS+CI+VDQ+EDV1+EDVF" };
@@ -63,10 +66,11 @@ static int column_width(const struct column *column)
     return name > value ? name : value;
 }
 
-/* Answers the text's length. */
+/* Answers the text's length. A repeat in a repeat with hundreds of months in it has more hundredths than 64 bits hold, but not more seconds. */
 static int time_text(uint64_t windows, char text[TIME_ROOM])
 {
-    uint64_t hundredths = windows * WINDOW_HUNDREDTHS, seconds = hundredths / 100, minutes = seconds / 60;
+    uint64_t hundredths = windows % WHOLE_WINDOWS * WINDOW_HUNDREDTHS;
+    uint64_t seconds = windows / WHOLE_WINDOWS * WHOLE_SECONDS + hundredths / 100, minutes = seconds / 60;
 
     return snprintf(text, TIME_ROOM, "%" PRIu64 ":%02u:%02u.%02u", minutes / 60, (unsigned)(minutes % 60),
                     (unsigned)(seconds % 60), (unsigned)(hundredths % 100));

@@ -1,7 +1,8 @@
 //! What the age of a cell does to the registers (paper 02, A5). This only counts: no comparison rests on it.
 
 use crate::counts::Counts;
-use crate::table::{Event, Part};
+use crate::table::ageing::Event;
+use crate::table::Part;
 use reference::compensation::{artte, cac, dcmp, fcac, tte};
 use reference::cycles::CYCLES_AN_AGE_STEP;
 use reference::gauge::Gauge;

@@ -3,6 +3,7 @@
 use crate::fields::{self, Fields};
 use crate::gauges;
 use crate::host;
+use crate::older::FORMER_STOP;
 use crate::random::Random;
 use crate::sweep;
 use crate::trial::{Start, Trial};
@@ -18,11 +19,11 @@ pub fn calls(random: &mut Random, fields: &mut Fields) -> Vec<Call> {
     match random.below(6) {
         0 => vec![rest_to_a_limit(random, fields), host::any_estimate(random)],
         1 => {
-            fields.rest_count = Some(rested(random));
+            fields.set_rest_count(rested(random));
             vec![idle_or_not(random, fields), host::any_estimate(random)]
         }
         2 => {
-            fields.rest_count = Some(rested(random));
+            fields.set_rest_count(rested(random));
             vec![gauges::command(random, fields), host::any_estimate(random)]
         }
         3 => vec![at_an_extreme(random, fields)],
@@ -35,22 +36,23 @@ pub fn sweep(random: &mut Random) -> Trial {
     let mut fields = fields::valid(random);
     fields.lmd = 65_535 - random.amount(64_535) as u16;
     fields.set_charge(fields.h as i64);
-    fields.rest_count = Some(rested(random));
+    fields.set_rest_count(rested(random));
     let steps = sweep::voltages(random).map(|voltage| Call::Estimate { voltage }.into()).collect();
     Trial { start: Start::Saved { bytes: fields.bytes(), accepted: Some(true) }, steps }
 }
 
 /// A count with which an estimate is given.
-fn rested(random: &mut Random) -> u16 {
-    values::rest_count(random).max(ESTIMATE_REST_MIN as u16)
+fn rested(random: &mut Random) -> u32 {
+    values::rest_count(random).max(ESTIMATE_REST_MIN)
 }
 
-/// A rest that brings the count to what an estimate asks for or to its stop, or one window beside either.
+/// A rest that brings the count to what an estimate asks for, to the greatest of two bytes or to its stop, or one window beside that.
+/// From its stop on, 32 bits would begin again at 0.
 fn rest_to_a_limit(random: &mut Random, fields: &mut Fields) -> Call {
     let windows = 1 + random.amount(60);
-    let limit = random.pick(&[ESTIMATE_REST_MIN, REST_COUNT_MAX]);
+    let limit = random.pick(&[ESTIMATE_REST_MIN, FORMER_STOP, REST_COUNT_MAX]);
     let before = i64::from(limit) + random.range(-1, 1) - windows;
-    fields.rest_count = Some(before as u16);
+    fields.set_rest_count(before as u32);
     Call::Rest { windows: windows as u32, temperature: values::temperature(random, &fields.meaning()) }
 }
 
@@ -68,7 +70,7 @@ fn idle_or_not(random: &mut Random, fields: &Fields) -> Call {
 /// An estimate with the greatest capacity, full or empty, at the first or the last entry.
 fn at_an_extreme(random: &mut Random, fields: &mut Fields) -> Call {
     fields.lmd = 65_535 - random.range(0, 1) as u16;
-    fields.rest_count = Some(rested(random));
+    fields.set_rest_count(rested(random));
     let full = fields.full_charge();
     fields.set_charge(random.pick(&[0, full]));
     Call::Estimate { voltage: random.pick(&[ESTIMATE_VOLTAGE_MIN, ESTIMATE_VOLTAGE_MAX]) + random.range(-1, 1) as i32 }
@@ -79,7 +81,8 @@ fn beside_nac(random: &mut Random, fields: &mut Fields) -> Call {
     if random.one_in(2) {
         fields.lmd = (1_000 * random.range(1, 65) + random.range(-1, 1)) as u16;
     }
-    fields.rest_count = Some(if random.one_in(2) { values::rest_count(random) } else { rested(random) });
+    let rest_count = if random.one_in(2) { values::rest_count(random) } else { rested(random) };
+    fields.set_rest_count(rest_count);
     let voltage = values::estimate_voltage(random);
     let in_table = voltage.clamp(ESTIMATE_VOLTAGE_MIN, ESTIMATE_VOLTAGE_MAX);
     let counts = i64::from(estimate::counts(in_table, i32::from(fields.lmd)));

@@ -3,10 +3,11 @@
 use crate::fields::Fields;
 use crate::random::Random;
 use crate::rest_steps::steps;
+use crate::rests::DAY;
 use crate::values;
 use reference::history::Call;
 use reference::leak::{w, GRAINS_PER_COUNT, GREATEST_DRAIN};
-use reference::refusal::{REST_MAX, TEMPERATURE_MAX};
+use reference::refusal::TEMPERATURE_MAX;
 
 /// One rest in so many may have as many windows as a day, which take long.
 const LONG_EVERY: u64 = 400;
@@ -25,7 +26,7 @@ fn beside_a_step(random: &mut Random, fields: &mut Fields) -> (i64, i32) {
     let configuration = fields.meaning();
     let temperature = values::temperature(random, &configuration);
     let rate = configuration.sd() * w(temperature);
-    let at_most = if random.one_in(LONG_EVERY) { i64::from(REST_MAX) } else { 1 + random.amount(600) };
+    let at_most = if random.one_in(LONG_EVERY) { i64::from(DAY) } else { 1 + random.amount(600) };
     if !random.one_in(4) {
         aim_charge(random, fields, rate, at_most);
     }
@@ -55,7 +56,7 @@ fn great_leak(random: &mut Random, fields: &mut Fields) -> (i64, i32) {
 }
 
 /// A run whose drain comes to 65,535 × G, or to one grain beside it, by the end of the rest or on its way.
-fn beside_the_greatest_drain(random: &mut Random, fields: &mut Fields, rate: i64, windows: i64) {
+pub fn beside_the_greatest_drain(random: &mut Random, fields: &mut Fields, rate: i64, windows: i64) {
     let until = if random.one_in(2) { windows } else { random.range(1, windows) };
     let drain: i64 = steps(fields.h as i64, rate, until).map(|step| step.leak * step.windows).sum();
     fields.set_run(GREATEST_DRAIN - drain + random.range(-1, 1));

@@ -5,6 +5,7 @@ use crate::conversions;
 use crate::counts::Counts;
 use crate::cycles;
 use crate::difference::{same, Difference};
+use crate::origin::Origin;
 use crate::rest_counts;
 use crate::table::{Kind, Part};
 use crate::trial::Start;
@@ -21,10 +22,7 @@ pub struct Begun {
     pub both: Both,
     /// None where the bytes hold no gauge.
     pub history: Option<History>,
-    /// The oldest form that the gauge came from.
-    pub from_form: u8,
-    /// Whether a run is under way that was converted from an older form.
-    pub converted_run: bool,
+    pub origin: Origin,
 }
 
 impl Begun {
@@ -36,17 +34,17 @@ impl Begun {
                 counts.add_number(part, Kind::Open, number);
                 same("number of opening", number, 0)?;
                 let history = Configuration::new(configuration).map(History::opened).expect("ILMD above 0");
-                Ok(Begun { both, history: Some(history), from_form: saved::FORM, converted_run: false })
+                Ok(Begun { both, history: Some(history), origin: Origin::newest() })
             }
             Start::Saved { bytes, accepted } => {
                 let held = saved::load(bytes);
                 same_if_known("saved bytes accepted", held.is_ok(), *accepted)?;
                 let history = history_of(held);
                 if let Some(history) = &history {
-                    rest_counts::handed_in(counts, part, history.rest_count);
+                    rest_counts::handed_in(counts, part, history.rest_count());
                     cycles::handed_in(counts, part, history);
                 }
-                Ok(Begun { both: Both::new(bytes), history, from_form: saved::FORM, converted_run: false })
+                Ok(Begun { both: Both::new(bytes), history, origin: Origin::newest() })
             }
             Start::Converted { old, lent, readable } => {
                 let mut both = Both::new(lent);
@@ -61,9 +59,11 @@ impl Begun {
     /// The history begins at what the old bytes hold. Where they are refused, the lent bytes are left, with a gauge or not.
     fn converted(both: Both, old: &[u8], lent: &[u8], number: u32) -> Begun {
         let history = history_of(if number == 0 { forms::load(old) } else { saved::load(lent) });
-        let from_form = if number == 0 { old[0] } else { saved::FORM };
-        let converted_run = from_form < saved::FORM && has_run(&history);
-        Begun { both, history, from_form, converted_run }
+        let mut origin = Origin::newest();
+        if let (0, Some(history)) = (number, &history) {
+            origin.convert(old[0], history);
+        }
+        Begun { both, history, origin }
     }
 }
 
@@ -73,8 +73,4 @@ fn same_if_known(what: &str, found: bool, known: Option<bool>) -> Result<(), Dif
 
 fn history_of(held: Result<Gauge, u32>) -> Option<History> {
     held.ok().map(|gauge| History::begun(&gauge))
-}
-
-pub fn has_run(history: &Option<History>) -> bool {
-    matches!(history, Some(History { run: Some(_), .. }))
 }

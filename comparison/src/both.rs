@@ -118,8 +118,9 @@ impl Both {
         same("DCR and the history's R", grains(19), history.r())?;
         same("AR and the history's AR", pair(37), history.ar)?;
         same("command bits of MODE and of the history's MODE", saved[39] & 0x3B, history.mode & 0x3B)?;
-        same("count of rest windows and the history's", pair(41), history.rest_count)?;
-        same("CYCT and the history's cycles", pair(43), history.cycles)?;
-        same("cycle drain and the history's", grains(45), history.cycle_drain)
+        let rest_count = u32::from_le_bytes(saved[41..45].try_into().expect("four bytes"));
+        same("count of rest windows and the history's", rest_count, history.rest_count())?;
+        same("CYCT and the history's cycles", pair(45), history.cycles)?;
+        same("cycle drain and the history's", grains(47), history.cycle_drain)
     }
 }

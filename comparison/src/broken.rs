@@ -2,13 +2,13 @@
 
 use crate::fields::{Cycles, Fields, CHGS, VDQ};
 use crate::random::Random;
-use crate::table::Event;
+use crate::table::damage::Event;
 use reference::cycles::CYCLE_DRAIN_LIMIT;
 use reference::leak::GREATEST_DRAIN;
 use reference::saved;
 
 /// Numbers that are no form.
-const NO_FORMS: [(u8, Event); 8] = [
+const NO_FORMS: [(u8, Event); 9] = [
     (0, Event::BrokenFormZero),
     (saved::FORM + 1, Event::BrokenFormNext),
     (255, Event::BrokenFormGreatest),
@@ -17,6 +17,7 @@ const NO_FORMS: [(u8, Event); 8] = [
     (0x82, Event::BrokenFormOther),
     (0x83, Event::BrokenFormOther),
     (0x84, Event::BrokenFormOther),
+    (0x85, Event::BrokenFormOther),
 ];
 
 /// The least SI whose sixteenths two bytes do not hold: 4,096 × 16 would wrap to 0.

@@ -1,6 +1,6 @@
 //! How often each event and each number occurred, in each part of the run. What never occurred was not compared.
 
-use crate::table::{Event, Kind, Part, EVENTS, KINDS, NUMBERS, NUMBERS_OF_A_CALL, PARTS};
+use crate::table::{Kind, Listed, Part, KINDS, NUMBERS, NUMBERS_OF_A_CALL, PARTS, TABLES};
 
 /// A count for each part.
 type Row = [u64; PARTS.len()];
@@ -13,7 +13,8 @@ const ENTRIES_NAME: &str = "entries of the estimate's table met, with LMD of 1,0
 const PARTS_OF_ENTRIES: &[Part] = &[Part::Lists, Part::Gauges];
 
 pub struct Counts {
-    events: Vec<Row>,
+    /// For each event of each table.
+    events: Vec<Vec<Row>>,
     numbers: [[Row; NUMBERS_OF_A_CALL]; KINDS],
     entries: Vec<Row>,
 }
@@ -21,14 +22,15 @@ pub struct Counts {
 impl Counts {
     pub fn new() -> Counts {
         let none = [0; PARTS.len()];
-        Counts { events: vec![none; EVENTS.len()], numbers: [[none; NUMBERS_OF_A_CALL]; KINDS], entries: vec![none; ENTRIES] }
+        let events = TABLES.iter().map(|(_, rows)| vec![none; rows.len()]).collect();
+        Counts { events, numbers: [[none; NUMBERS_OF_A_CALL]; KINDS], entries: vec![none; ENTRIES] }
     }
 
-    pub fn add(&mut self, part: Part, event: Event) {
-        self.events[event as usize][part as usize] += 1;
+    pub fn add<E: Listed>(&mut self, part: Part, event: E) {
+        self.events[E::TABLE as usize][event.row()][part as usize] += 1;
     }
 
-    pub fn add_if(&mut self, part: Part, event: Event, occurred: bool) {
+    pub fn add_if<E: Listed>(&mut self, part: Part, event: E, occurred: bool) {
         if occurred {
             self.add(part, event);
         }
@@ -54,8 +56,10 @@ impl Counts {
         let names: Vec<String> = PARTS.iter().map(|(_, name)| format!(" {name:>12}")).collect();
         println!("{:62}{}", "", names.concat());
         let mut missing = 0;
-        for &(event, name, parts) in EVENTS {
-            missing += print_row(name, &self.events[event as usize], 1, parts, texts_compared);
+        for (table, rows) in TABLES {
+            for (&(name, parts), counts) in rows.iter().zip(&self.events[table as usize]) {
+                missing += print_row(name, counts, 1, parts, texts_compared);
+            }
         }
         missing += print_row(ENTRIES_NAME, &self.entries_met(), ENTRIES as u64, PARTS_OF_ENTRIES, texts_compared);
         for &(kind, call, numbers, parts) in NUMBERS {

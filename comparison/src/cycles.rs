@@ -2,7 +2,9 @@
 
 use crate::counts::Counts;
 use crate::events::Standing;
-use crate::table::{Event, Part};
+use crate::origin::Origin;
+use crate::table::cycles::Event;
+use crate::table::Part;
 use reference::command::{self, Command};
 use reference::cycles::{discharge, CYCLES_AN_AGE_STEP, CYCLES_MAX, CYCLE_DRAIN_LIMIT};
 use reference::history::{Call, History};
@@ -81,6 +83,11 @@ fn taught(counts: &mut Counts, part: Part, after: &Standing, sum: i64, whole: i6
     counts.add_if(part, Event::CycleTeachMore, whole < by_taught && whole > 0);
     counts.add_if(part, Event::CycleTeachNone, whole < by_taught && whole == 0);
     counts.add_if(part, Event::LearnedBelowDrain, after.cycle_drain >= full_charge(after.lmd));
+}
+
+/// Counts a cycle of a gauge that came from a form without cycles.
+pub fn since_conversion(counts: &mut Counts, part: Part, origin: &Origin, before: &Standing, after: &Standing) {
+    counts.add_if(part, Event::CycleFromOlder, after.cycles > before.cycles && origin.form < 4);
 }
 
 /// Counts a rest that was not refused.

@@ -7,10 +7,11 @@ use crate::counts::Counts;
 use crate::difference::{hexadecimal, Difference};
 use crate::fields::{self, Fields};
 use crate::gauges;
-use crate::older::{self, LENGTH_1_AND_2, LENGTH_3};
+use crate::older::{self, LENGTH_1_AND_2, LENGTH_3, LENGTH_4};
 use crate::random::Random;
 use crate::reshaped;
-use crate::table::{Event, Kind, Part};
+use crate::table::damage::Event;
+use crate::table::{Kind, Part};
 use crate::trial::{Start, Trial};
 use crate::values;
 use reference::configuration::Configuration;
@@ -49,7 +50,7 @@ pub fn trials(random: &mut Random, from_lists: &[Vec<u8>], counts: &mut Counts) 
 
 fn count(counts: &mut Counts, part: Part, save: &Save) {
     counts.add(part, save.event);
-    if matches!(save.event, Event::OlderWhole1 | Event::OlderWhole2 | Event::OlderWhole3) {
+    if matches!(save.event, Event::OlderWhole1 | Event::OlderWhole2 | Event::OlderWhole3 | Event::OlderWhole4) {
         return;
     }
     reshaped::count(counts, part, &save.bytes);
@@ -58,7 +59,8 @@ fn count(counts: &mut Counts, part: Part, save: &Save) {
         (Ok(_), Some(1)) => Event::DamagedForm1,
         (Ok(_), Some(2)) => Event::DamagedForm2,
         (Ok(_), Some(3)) => Event::DamagedForm3,
-        (Ok(_), _) => Event::DamagedForm4,
+        (Ok(_), Some(4)) => Event::DamagedForm4,
+        (Ok(_), _) => Event::DamagedForm5,
     };
     counts.add(part, event);
 }
@@ -81,6 +83,7 @@ fn each_call(random: &mut Random, configuration: &Configuration, save: &Save) ->
 fn conversion(random: &mut Random, configuration: &Configuration, save: Save) -> Trial {
     let lent = match random.below(4) {
         0 => fields::valid(random).bytes(),
+        1 if random.one_in(2) => vec![0xEE; random.pick(&[LENGTH_4, saved::LENGTH - 1, saved::LENGTH + 1])],
         1 => bytes(random, 65),
         _ => vec![0xEE; saved::LENGTH],
     };
@@ -99,7 +102,8 @@ fn of_older_form(random: &mut Random, fields: Fields) -> Save {
         let event = match fields.form {
             1 => Event::OlderWhole1,
             2 => Event::OlderWhole2,
-            _ => Event::OlderWhole3,
+            3 => Event::OlderWhole3,
+            _ => Event::OlderWhole4,
         };
         Save { event, bytes: fields.bytes(), readable: Some(true) }
     } else {
@@ -128,8 +132,8 @@ fn damaged(random: &mut Random, mut fields: Fields) -> Save {
         3 => reshaped::of_another_length(random, &mut bytes),
         4 => reshaped::of_another_form(random, &mut bytes),
         5 if fields.rest_count.is_some() => {
-            fields.rest_count = Some(values::rest_count(random));
-            bytes = fields.bytes();
+            fields.set_rest_count(values::rest_count(random));
+            bytes = older::in_form(fields.form, &fields).bytes();
             (Event::CountReplaced, Some(true))
         }
         6 if fields.cycles.is_some() => {
@@ -156,7 +160,7 @@ pub fn opening(random: &mut Random, counts: &mut Counts) -> Result<(), (String, 
         configuration.resize(random.below(21) as usize, random.pick(&[0, 1]));
     }
     let length = match random.below(6) {
-        0 => random.pick(&[LENGTH_1_AND_2, LENGTH_3, saved::LENGTH - 1, saved::LENGTH + 1]),
+        0 => random.pick(&[LENGTH_1_AND_2, LENGTH_3, LENGTH_4, saved::LENGTH - 1, saved::LENGTH + 1]),
         1 => random.below(65) as usize,
         _ => saved::LENGTH,
     };
@@ -165,7 +169,19 @@ pub fn opening(random: &mut Random, counts: &mut Counts) -> Result<(), (String, 
     let called = format!("  open    {}\n  saved   {}\n", hexadecimal(&configuration), hexadecimal(&content));
     let number = both.open(&configuration).map_err(|difference| (called.clone(), difference))?;
     counts.add_number(Part::Damaged, Kind::Open, number);
-    counts.add_if(Part::Damaged, Event::OpenInto41, number == REPLY && length == LENGTH_1_AND_2);
-    counts.add_if(Part::Damaged, Event::OpenInto43, number == REPLY && length == LENGTH_3);
+    opened_into(counts, length, number);
     both.same_registers().map_err(|difference| (called, difference))
+}
+
+/// Counts an opening over bytes that are too few or too many, by how many they are.
+fn opened_into(counts: &mut Counts, length: usize, number: u32) {
+    let event = match (number, length) {
+        (REPLY, LENGTH_1_AND_2) => Event::OpenInto41,
+        (REPLY, LENGTH_3) => Event::OpenInto43,
+        (REPLY, LENGTH_4) => Event::OpenInto53,
+        (REPLY, 54) => Event::OpenInto54,
+        (REPLY, 56) => Event::OpenInto56,
+        _ => return,
+    };
+    counts.add(Part::Damaged, event);
 }

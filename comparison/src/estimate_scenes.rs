@@ -1,20 +1,20 @@
 //! Scenes with a rested cell: the count of rest windows, and estimates (paper 02, A4).
 
 use crate::host;
+use crate::rests::DAY;
 use crate::sweep;
 use crate::values;
 use crate::writer::Writer;
 use reference::estimate;
-use reference::gauge::REST_COUNT_MAX;
-use reference::refusal::{ESTIMATE_REST_MIN, ESTIMATE_VOLTAGE_MAX, ESTIMATE_VOLTAGE_MIN, REST_MAX};
+use reference::refusal::{ESTIMATE_REST_MIN, ESTIMATE_VOLTAGE_MAX, ESTIMATE_VOLTAGE_MIN};
 
 /// A rest up to what an estimate asks for, or one window beside it, and what follows on it.
 pub fn rested(writer: &mut Writer) {
     if writer.random.one_in(2) {
         begin_anew(writer);
     }
-    let more = writer.random.pick(&[-1, -1, 0, 0, 0, 1, 200]);
-    rest_to(writer, ESTIMATE_REST_MIN + more);
+    let target = i64::from(ESTIMATE_REST_MIN) + writer.random.pick(&[-1, -1, 0, 0, 0, 1, 200]);
+    rest_to(writer, target);
     some_estimates(writer);
     match writer.random.below(6) {
         0 => writer.rest(1, 1_192),
@@ -27,23 +27,9 @@ pub fn rested(writer: &mut Writer) {
     some_estimates(writer);
 }
 
-/// A rest of days, up to the count's stop or one window beside it, and on.
-pub fn to_the_stop(writer: &mut Writer) {
-    let target = REST_COUNT_MAX + writer.random.range(-1, 1) as i32;
-    rest_to(writer, target);
-    some_estimates(writer);
-    for _ in 0..2 {
-        let (windows, temperature) = (writer.random.range(1, 600), writer.temperature());
-        writer.rest(windows, temperature);
-        some_estimates(writer);
-    }
-    begin_anew(writer);
-    some_estimates(writer);
-}
-
 /// All entries of the table, with a capacity that shows every permille.
 pub fn whole_table(writer: &mut Writer) {
-    rest_to(writer, ESTIMATE_REST_MIN);
+    rest_to(writer, i64::from(ESTIMATE_REST_MIN));
     let capacity = 65_535 - writer.random.amount(64_535);
     writer.command(Some(capacity), 0x01, 0x56);
     let voltages: Vec<i32> = sweep::voltages(&mut writer.random).collect();
@@ -53,7 +39,7 @@ pub fn whole_table(writer: &mut Writer) {
 }
 
 /// The count begins anew: by a current, or by a reset.
-fn begin_anew(writer: &mut Writer) {
+pub fn begin_anew(writer: &mut Writer) {
     match writer.random.below(4) {
         0 => writer.command(None, 0x08, 0xA9),
         1 => writer.command(None, 0x02, 0xA9),
@@ -67,10 +53,10 @@ fn begin_anew(writer: &mut Writer) {
 }
 
 /// Rests until the count would come to a target, in pieces, now and then with a window between them that does not count.
-fn rest_to(writer: &mut Writer, target: i32) {
-    let mut left = i64::from(target - writer.history.rest_count);
+pub fn rest_to(writer: &mut Writer, target: i64) {
+    let mut left = target - i64::from(writer.history.rest_count());
     while left > 0 {
-        let whole = left.min(i64::from(REST_MAX));
+        let whole = left.min(i64::from(DAY));
         let windows = if writer.random.one_in(3) { writer.random.range(1, whole) } else { whole };
         let temperature = writer.temperature();
         writer.rest(windows, temperature);
@@ -82,7 +68,7 @@ fn rest_to(writer: &mut Writer, target: i32) {
 }
 
 /// A window whose current does not count: 0, or DMF either way.
-fn idle_window(writer: &mut Writer) {
+pub fn idle_window(writer: &mut Writer) {
     let dmf = writer.configuration.dmf();
     let current = writer.random.pick(&[0, dmf, -dmf]);
     let voltage = values::voltage(&mut writer.random, &writer.configuration);
@@ -90,7 +76,7 @@ fn idle_window(writer: &mut Writer) {
     writer.window(current, voltage, temperature);
 }
 
-fn some_estimates(writer: &mut Writer) {
+pub fn some_estimates(writer: &mut Writer) {
     for _ in 0..writer.random.range(1, 3) {
         let voltage = values::estimate_voltage(&mut writer.random);
         writer.estimate(voltage);

@@ -8,8 +8,9 @@ use crate::previews;
 use crate::rest_counts;
 use crate::rests;
 use crate::standby;
-use crate::table::{Event, Kind, Part};
-use reference::command::{self, Command};
+use crate::table::windows::Event;
+use crate::table::{Kind, Part};
+use crate::writes;
 use reference::configuration::Configuration;
 use reference::history::{Call, History};
 use reference::leak::{leak, w, GRAINS_PER_COUNT, GRAINS_PER_UNIT, GREATEST_DRAIN};
@@ -24,7 +25,7 @@ pub struct Standing {
     pub mode: u8,
     pub ar: i32,
     pub si_sixteenths: i32,
-    pub rest_count: i32,
+    pub rest_count: u32,
     pub cycles: i32,
     pub cycle_drain: i64,
 }
@@ -40,7 +41,7 @@ impl Standing {
             mode: history.mode,
             ar: history.ar,
             si_sixteenths: i32::from(fields::si(bytes)),
-            rest_count: history.rest_count,
+            rest_count: history.rest_count(),
             cycles: history.cycles,
             cycle_drain: history.cycle_drain,
         }
@@ -72,23 +73,14 @@ pub fn count(counts: &mut Counts, part: Part, before: &Standing, after: &Standin
             rest_counts::rest(counts, part, before, windows);
             cycles::rest(counts, part, before, after);
         }
-        Call::Write { address, value } => write(counts, part, before, address, value),
-        Call::Read { address, count, .. } => read(counts, part, before, address, count),
+        Call::Write { address, value } => writes::write(counts, part, before, address, value),
+        Call::Read { address, count, .. } => writes::read(counts, part, before, address, count),
         Call::Preview { key, .. } => {
             previews::count(counts, part, before, key);
             cycles::preview(counts, part, before, key);
         }
         Call::Estimate { voltage } => estimates::count(counts, part, before, voltage),
     }
-}
-
-fn read(counts: &mut Counts, part: Part, before: &Standing, address: u32, count: u32) {
-    counts.add_if(part, Event::ReadAll, count == 128);
-    let end = address + count;
-    let within = |at: u32| at % 2 == 1 && (0x03..0x1E).contains(&at) && at != 0x0B;
-    counts.add_if(part, Event::ReadHalf, within(address) || within(end));
-    let of_cyct = before.cycles > 0 && (address == 0x2B || end == 0x2B);
-    counts.add_if(part, Event::ReadHalfCyct, of_cyct);
 }
 
 fn window(counts: &mut Counts, part: Part, before: &Standing, a: i32, v: i32, t: i32) {
@@ -176,33 +168,4 @@ fn learned(r: i64, lmd: i32) -> Event {
     } else {
         Event::LearnedDrain
     }
-}
-
-fn write(counts: &mut Counts, part: Part, before: &Standing, address: u32, value: u8) {
-    counts.add_if(part, Event::WriteMode, address == command::MODE);
-    counts.add_if(part, Event::WriteArLow, address == command::AR_LOW);
-    counts.add_if(part, Event::WriteArHigh, address == command::AR_HIGH);
-    if address == command::CTRL {
-        if let Ok(picked) = command::decide(value, before.mode, before.ar) {
-            carried_out(counts, part, before, picked);
-        }
-    }
-}
-
-fn carried_out(counts: &mut Counts, part: Part, before: &Standing, picked: Command) {
-    let event = match picked {
-        Command::Wrtnac => Event::Wrtnac,
-        Command::Done => Event::Done,
-        Command::Prst => Event::Prst,
-        Command::Frst => Event::Frst,
-        Command::Wrtlmd => Event::Wrtlmd,
-    };
-    counts.add(part, event);
-    counts.add_if(part, Event::WrtnacAboveLmd, picked == Command::Wrtnac && before.ar > before.lmd);
-    let cuts = picked == Command::Wrtlmd && before.h > i64::from(before.ar) * GRAINS_PER_COUNT;
-    counts.add_if(part, Event::WrtlmdCuts, cuts);
-    let resets = matches!(picked, Command::Prst | Command::Frst);
-    counts.add_if(part, Event::ResetOfStandby, resets && before.si_sixteenths != 16 * before.configuration.s0());
-    rest_counts::command(counts, part, before, picked);
-    cycles::command(counts, part, before, picked);
 }

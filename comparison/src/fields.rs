@@ -1,5 +1,6 @@
 //! The fields of saved bytes, valid ones at random over all that is accepted, reachable by a list or not.
 
+use crate::older::{LENGTH_3, LENGTH_4};
 use crate::random::Random;
 use crate::values;
 use reference::configuration::Configuration;
@@ -18,6 +19,29 @@ pub struct Cycles {
     pub drain: u64,
 }
 
+/// The count of rest windows as a form stores it: in two bytes, and since form 5 in four (paper 02, A4 and A6).
+#[derive(Clone, Copy)]
+pub enum RestCount {
+    TwoBytes(u16),
+    FourBytes(u32),
+}
+
+impl RestCount {
+    pub fn windows(self) -> u32 {
+        match self {
+            RestCount::TwoBytes(windows) => u32::from(windows),
+            RestCount::FourBytes(windows) => windows,
+        }
+    }
+
+    fn bytes(self) -> Vec<u8> {
+        match self {
+            RestCount::TwoBytes(windows) => windows.to_le_bytes().to_vec(),
+            RestCount::FourBytes(windows) => windows.to_le_bytes().to_vec(),
+        }
+    }
+}
+
 /// The saved gauge field by field, without any condition. SI is the stored number, whose unit is the form's own. A field that the form
 /// lacks is none.
 #[derive(Clone)]
@@ -34,12 +58,12 @@ pub struct Fields {
     pub ar: u16,
     pub mode: u8,
     pub flags: u8,
-    pub rest_count: Option<u16>,
+    pub rest_count: Option<RestCount>,
     pub cycles: Option<Cycles>,
 }
 
 impl Fields {
-    /// The 41 bytes in the order of paper 01, "Saved gauge", low byte first, and then what later forms append (paper 02, A4 and A5).
+    /// The 41 bytes in the order of paper 01, "Saved gauge", low byte first, and then what later forms append (paper 02, A4, A5 and A6).
     /// Forms 1 and 2 differ in what SI means alone.
     pub fn bytes(&self) -> Vec<u8> {
         let mut bytes = vec![self.form];
@@ -53,7 +77,7 @@ impl Fields {
         bytes.extend(self.temp.to_le_bytes());
         bytes.extend(self.ar.to_le_bytes());
         bytes.extend([self.mode, self.flags]);
-        bytes.extend(self.rest_count.iter().flat_map(|count| count.to_le_bytes()));
+        bytes.extend(self.rest_count.iter().flat_map(|count| count.bytes()));
         if let Some(cycles) = self.cycles {
             bytes.extend(cycles.cyct.to_le_bytes());
             bytes.extend(cycles.drain.to_le_bytes());
@@ -61,10 +85,19 @@ impl Fields {
         bytes
     }
 
-    /// The fields of 41 bytes, or of more, whatever form their number says.
+    /// The fields of bytes that have the length of a form, whatever form their number says.
     pub fn of(bytes: &[u8]) -> Fields {
         let pair = |at: usize| u16::from_le_bytes([bytes[at], bytes[at + 1]]);
         let eight = |at: usize| u64::from_le_bytes(bytes[at..at + 8].try_into().expect("eight bytes"));
+        let narrow = || RestCount::TwoBytes(pair(41));
+        let wide = || RestCount::FourBytes(u32::from(pair(41)) | u32::from(pair(43)) << 16);
+        let cycles_at = |at: usize| Cycles { cyct: pair(at), drain: eight(at + 2) };
+        let (rest_count, cycles) = match bytes.len() {
+            saved::LENGTH => (Some(wide()), Some(cycles_at(45))),
+            LENGTH_4 => (Some(narrow()), Some(cycles_at(43))),
+            LENGTH_3 => (Some(narrow()), None),
+            _ => (None, None),
+        };
         Fields {
             form: bytes[0],
             configuration: bytes[1..11].try_into().expect("ten bytes"),
@@ -78,8 +111,8 @@ impl Fields {
             ar: pair(37),
             mode: bytes[39],
             flags: bytes[40],
-            rest_count: bytes.get(41..43).map(|_| pair(41)),
-            cycles: bytes.get(43..53).map(|_| Cycles { cyct: pair(43), drain: eight(45) }),
+            rest_count,
+            cycles,
         }
     }
 
@@ -109,6 +142,11 @@ impl Fields {
     pub fn set_run(&mut self, dcr: i64) {
         self.flags |= VDQ;
         self.dcr = dcr.clamp(0, GREATEST_DRAIN) as u64;
+    }
+
+    /// Sets the count of the newest form.
+    pub fn set_rest_count(&mut self, windows: u32) {
+        self.rest_count = Some(RestCount::FourBytes(windows));
     }
 
     /// Sets the cycles, the drain held within what is accepted.
@@ -151,7 +189,7 @@ pub fn valid(random: &mut Random) -> Fields {
         ar: random.amount(65_535) as u16,
         mode: random.byte(),
         flags,
-        rest_count: Some(values::rest_count(random)),
+        rest_count: Some(RestCount::FourBytes(values::rest_count(random))),
         cycles: None,
     };
     fields.si = standby(random, fields.greatest_si());

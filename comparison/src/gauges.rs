@@ -2,6 +2,7 @@
 
 use crate::aimed_cycles;
 use crate::aimed_estimates;
+use crate::aimed_long_rests;
 use crate::aimed_rests;
 use crate::fields::{self, Fields};
 use crate::host;
@@ -25,6 +26,9 @@ const LIST_EVERY: u64 = 400;
 /// One trial in so many is a sweep over all entries of the estimate's table.
 const SWEEP_EVERY: u64 = 4_000;
 
+/// One trial in so many has a rest of more than a day, whose windows are many.
+const LONG_REST_EVERY: u64 = 1_400;
+
 pub fn trial(random: &mut Random) -> Trial {
     if random.one_in(LIST_EVERY) {
         return lists::begun(Random::new(random.next()));
@@ -42,13 +46,16 @@ pub fn trial(random: &mut Random) -> Trial {
 
 /// The gauge as saved bytes, or converted, from an older form, which loses what that form lacks, or from the newest.
 fn start(random: &mut Random, fields: &Fields) -> Start {
-    match random.below(8) {
-        form @ 1..=4 => Start::converted(older::in_form(form as u8, fields).bytes()),
+    match random.below(10) {
+        form @ 1..=5 => Start::converted(older::in_form(form as u8, fields).bytes()),
         _ => Start::Saved { bytes: fields.bytes(), accepted: Some(true) },
     }
 }
 
 fn first_calls(random: &mut Random, fields: &mut Fields) -> Vec<Call> {
+    if random.one_in(LONG_REST_EVERY) {
+        return vec![aimed_long_rests::rest(random, fields), host::any_estimate(random)];
+    }
     if random.one_in(6) {
         return aimed_estimates::calls(random, fields);
     }
@@ -78,7 +85,7 @@ pub fn any_call(random: &mut Random, configuration: &Configuration) -> Call {
         4 => host::any_estimate(random),
         5 => {
             let windows = match random.below(60) {
-                0 => 16_875 - random.below(2) as u32,
+                0 => values::about_a_day(random) as u32,
                 1 => random.range(1, 2_000) as u32,
                 _ => random.range(1, 6) as u32,
             };

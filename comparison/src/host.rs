@@ -5,7 +5,7 @@ use crate::values;
 use crate::writer::Writer;
 use reference::configuration::Configuration;
 use reference::history::Call;
-use reference::refusal::{CURRENT_MAX, TEMPERATURE_MAX, TEMPERATURE_MIN, VOLTAGE_MAX, VOLTAGE_MIN};
+use reference::refusal::{CURRENT_MAX, REST_MAX, TEMPERATURE_MAX, TEMPERATURE_MIN, VOLTAGE_MAX, VOLTAGE_MIN};
 
 /// Gives a command.
 pub fn command(writer: &mut Writer) {
@@ -125,7 +125,8 @@ pub fn out_of_range(random: &mut Random, configuration: &Configuration) -> Call 
     if random.one_in(3) {
         let windows = match broken & 1 {
             0 => 1 + random.below(20) as u32,
-            _ => random.pick(&[0, 16_876, 16_877, 0x1_0001, u32::MAX, 0x8000_0000]),
+            // With the number of windows cut to fewer bits, some would be in range.
+            _ => random.pick(&[0, REST_MAX + 1, REST_MAX + 1, REST_MAX + 2, 0x8_0001, 0x0100_41EB, u32::MAX, 0x8000_0001]),
         };
         return Call::Rest { windows, temperature };
     }

@@ -3,6 +3,7 @@
 use crate::cycle_scenes;
 use crate::estimate_scenes;
 use crate::host;
+use crate::long_rest_scenes;
 use crate::random::Random;
 use crate::rest_scenes;
 use crate::scenes;
@@ -13,9 +14,13 @@ use reference::history::Call;
 /// One list in so many has a long run, which alone is some 1,650 windows.
 const LONG_RUN_EVERY: u64 = 100;
 
-/// One list in so many has a rest of days, which alone is 65,535 windows, and one has the whole table of an estimate, 301 calls.
-const REST_OF_DAYS_EVERY: u64 = 400;
+/// One list in so many has a count of rest windows that two bytes do not hold, which is 65,536 windows and more, and one has the whole
+/// table of an estimate, 301 calls.
+const WIDE_COUNT_EVERY: u64 = 100;
 const WHOLE_TABLE_EVERY: u64 = 400;
+
+/// One list in so many is of a handset that is stored for up to a month at once, which is 506,250 windows.
+const STORED_EVERY: u64 = 120;
 
 /// One list in so many brings CYCT to its stop, which alone is some 1,650 windows.
 const OLD_AGE_EVERY: u64 = 400;
@@ -30,8 +35,20 @@ const RESTED_EVERY: u64 = 100;
 const UPDATE_EVERY: u64 = 40;
 
 /// A list from opening.
-pub fn list(random: Random) -> Trial {
+pub fn list(mut random: Random) -> Trial {
+    if random.one_in(STORED_EVERY) {
+        return stored(Writer::leaking(random));
+    }
     written(Writer::new(random))
+}
+
+/// A handset is stored and then used.
+fn stored(mut writer: Writer) -> Trial {
+    long_rest_scenes::stored(&mut writer);
+    for _ in 0..writer.random.range(1, 6) {
+        scene(&mut writer);
+    }
+    writer.trial()
 }
 
 /// A list that goes on from any gauge; every second one is of a handset that was updated mid-drive, with a gauge in an older form.
@@ -47,8 +64,8 @@ fn written(mut writer: Writer) -> Trial {
             scenes::long_run(&mut writer);
         }
     }
-    if writer.random.one_in(REST_OF_DAYS_EVERY) {
-        estimate_scenes::to_the_stop(&mut writer);
+    if writer.random.one_in(WIDE_COUNT_EVERY) {
+        long_rest_scenes::wide_count(&mut writer);
     }
     if writer.random.one_in(WHOLE_TABLE_EVERY) {
         estimate_scenes::whole_table(&mut writer);

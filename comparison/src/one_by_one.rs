@@ -4,9 +4,11 @@ use crate::difference::{same, same_bytes, Difference};
 use crate::shipped::{self, Lent};
 use reference::refusal::REST_MAX;
 
-/// Every rest of at most so many windows is made again one by one, and one in so many of the longer ones, whose calls are many.
+/// Every rest of at most so many windows is made again one by one, one in so many of the longer ones, whose calls are many, and one in
+/// so many of the longest, which are few.
 const ALL_UP_TO: u32 = 600;
 const LONGER_ONE_IN: u32 = 16;
+const LONGEST_ONE_IN: u32 = 5;
 
 /// Makes a rest, and as many rests of 1 window, on copies of the gauge: each has to yield the number of the one, and together they have
 /// to leave its bytes. The number, or none for a rest that is not made so.
@@ -25,11 +27,16 @@ pub fn compare(saved: &Lent, windows: u32, temperature: i32) -> Result<Option<u3
 }
 
 fn is_compared(saved: &Lent, windows: u32) -> bool {
-    (2..=REST_MAX).contains(&windows) && (windows <= ALL_UP_TO || is_chosen(saved, windows))
+    let one_in = match windows {
+        0..=ALL_UP_TO => 1,
+        REST_MAX => LONGEST_ONE_IN,
+        _ => LONGER_ONE_IN,
+    };
+    (2..=REST_MAX).contains(&windows) && is_chosen(saved, windows, one_in)
 }
 
 /// The longer ones are chosen by what they are made with, so that a trial that is run again makes the same calls.
-fn is_chosen(saved: &Lent, windows: u32) -> bool {
+fn is_chosen(saved: &Lent, windows: u32, one_in: u32) -> bool {
     let sum: u32 = saved.bytes().iter().map(|&byte| u32::from(byte)).sum();
-    (sum + windows) % LONGER_ONE_IN == 0
+    (sum + windows) % one_in == 0
 }

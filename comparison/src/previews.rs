@@ -2,7 +2,8 @@
 
 use crate::counts::Counts;
 use crate::events::Standing;
-use crate::table::{Event, Part};
+use crate::table::host::Event;
+use crate::table::Part;
 use reference::command::{self, Command};
 use reference::refusal::{KEY, LMD_ZERO, NOT_CARRIED, NO_COMMAND, REGISTERS, REPLY, SAVED};
 

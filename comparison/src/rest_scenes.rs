@@ -9,7 +9,7 @@ use reference::refusal::TEMPERATURE_MAX;
 pub fn rest(writer: &mut Writer) {
     let temperature = writer.temperature();
     let windows = match writer.random.below(40) {
-        0 => 16_875 - writer.random.below(2) as i64,
+        0 => values::about_a_day(&mut writer.random),
         1..=4 => writer.random.range(1, 600),
         5..=9 => 1,
         10..=14 => {

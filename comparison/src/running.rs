@@ -1,7 +1,7 @@
 //! A trial while it runs: the gauge on both sides, and the history that its calls give. Everything is compared after every step.
 
 use crate::ageing;
-use crate::begun::{has_run, Begun, LENT};
+use crate::begun::{Begun, LENT};
 use crate::both::Both;
 use crate::conversions;
 use crate::counts::Counts;
@@ -15,12 +15,10 @@ use crate::previews;
 use crate::rest_counts;
 use crate::rests;
 use crate::step::Step;
-use crate::table::{Event, Part};
+use crate::table::Part;
 use crate::trial::Start;
-use reference::fixing::{FixingPoint, FixingPoints};
 use reference::history::Call;
 use reference::refusal::SAVED;
-use reference::saved;
 
 pub struct Running<'a> {
     now: Begun,
@@ -57,17 +55,15 @@ impl<'a> Running<'a> {
         }
         let number = self.now.both.call(call)?;
         self.counts.add_number(self.part, events::kind(call), number);
-        if let Some(history) = &mut self.now.history {
+        if let (Some(history), Some(before)) = (&mut self.now.history, &before) {
             let answer = history.call(call);
             same("number and the history's number", number, answer.err().unwrap_or(0))?;
-            self.follow_run(answer.unwrap_or_default());
+            conversions::since(self.counts, self.part, &self.now.origin, before, call, answer);
+            self.now.origin.follow(history, answer.unwrap_or_default());
         }
         match (number, before, self.standing()) {
             (0, Some(before), Some(after)) => self.count_accepted(&before, &after, call),
             (_, before, _) => self.count_refused(before, call, number),
-        }
-        if let (Call::Estimate { .. }, 1 | 2) = (call, self.now.from_form) {
-            estimates::without_count(self.counts, self.part, number);
         }
         Ok(())
     }
@@ -86,8 +82,7 @@ impl<'a> Running<'a> {
     fn count_accepted(&mut self, before: &Standing, after: &Standing, call: &Call) {
         events::count(self.counts, self.part, before, after, call);
         ageing::count(self.counts, self.part, before.cycles, &self.now.both.reference);
-        let counted = after.cycles > before.cycles && self.now.from_form < saved::FORM;
-        self.counts.add_if(self.part, Event::CycleFromOlder, counted);
+        cycles::since_conversion(self.counts, self.part, &self.now.origin, before, after);
     }
 
     /// Counts what is told of a refused call beside its number.
@@ -108,14 +103,6 @@ impl<'a> Running<'a> {
         }
     }
 
-    /// Counts a converted run that has taught, and forgets it where it ends or another begins.
-    fn follow_run(&mut self, points: FixingPoints) {
-        let taught = self.now.converted_run && points.contains(FixingPoint::QualifiedRun);
-        self.counts.add_if(self.part, Event::ConvertedRunTeaches, taught);
-        let another = points.contains(FixingPoint::Full) || points.contains(FixingPoint::Done);
-        self.now.converted_run &= has_run(&self.now.history) && !another;
-    }
-
     /// The bytes in a form are converted, which gives the bytes again, but for what the form lacks. The history goes on.
     fn update(&mut self, form: u8) -> Result<(), Difference> {
         let before = self.now.both.reference.clone();
@@ -127,10 +114,10 @@ impl<'a> Running<'a> {
             same("number of converting a gauge", number, 0)?;
             let carried_over = older::carried_over(form, &before);
             same_bytes("converted bytes and those before the update", both.shipped.bytes(), &carried_over)?;
+            conversions::update(self.counts, self.part, form, history);
             older::forget(form, history);
             self.now.both = both;
-            self.now.from_form = self.now.from_form.min(form);
-            self.now.converted_run |= form < saved::FORM && has_run(&self.now.history);
+            self.now.origin.convert(form, history);
         }
         Ok(())
     }

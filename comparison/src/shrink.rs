@@ -6,9 +6,13 @@ use crate::step::Step;
 use crate::table::Part;
 use crate::trial::{Failure, Trial};
 use reference::history::Call;
+use reference::refusal::REST_MAX;
 
 /// So many calls may be made in the search. A long trial then ends it with what was found until there.
 const CALLS_IN_SEARCH: u64 = 10_000_000;
+
+/// So many windows of a rest take about as long as a call.
+const WINDOWS_OF_A_CALL: u64 = 100;
 
 /// The arguments of a call, at most.
 const ARGUMENTS: usize = 4;
@@ -36,7 +40,8 @@ struct Search {
 impl Search {
     /// The trial's difference, if it has one and the search may still make its calls.
     fn failure(&mut self, trial: &Trial) -> Option<Failure> {
-        self.calls_left = self.calls_left.checked_sub(trial.steps.len() as u64 + 1)?;
+        let calls: u64 = trial.steps.iter().map(calls_of).sum();
+        self.calls_left = self.calls_left.checked_sub(calls + 1)?;
         trial.run(Part::Lists, &mut Counts::new()).err()
     }
 
@@ -138,6 +143,14 @@ impl Search {
                 step /= 2;
             }
         }
+    }
+}
+
+/// What a step counts in the search.
+fn calls_of(step: &Step) -> u64 {
+    match *step {
+        Step::Call(Call::Rest { windows, .. }) => 1 + u64::from(windows.min(REST_MAX)) / WINDOWS_OF_A_CALL,
+        _ => 1,
     }
 }
 

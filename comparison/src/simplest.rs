@@ -61,7 +61,7 @@ fn opened(form: u8) -> Vec<u8> {
     let mut bytes = vec![0; saved::LENGTH];
     calls::open(&BENCH_PACK, &mut bytes);
     match form {
-        1..=3 => older::in_form(form, &Fields::of(&bytes)).bytes(),
+        1..=4 => older::in_form(form, &Fields::of(&bytes)).bytes(),
         _ => bytes,
     }
 }

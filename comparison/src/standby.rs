@@ -2,7 +2,8 @@
 
 use crate::counts::Counts;
 use crate::events::Standing;
-use crate::table::{Event, Part};
+use crate::table::windows::Event;
+use crate::table::Part;
 
 /// Counts the events of step 5 for a window of counted current c that was not refused.
 pub fn count(counts: &mut Counts, part: Part, before: &Standing, after: &Standing, c: i32) {

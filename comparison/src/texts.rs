@@ -2,7 +2,8 @@
 
 use crate::counts::Counts;
 use crate::random::Random;
-use crate::table::{Event, Part};
+use crate::table::texts::Event;
+use crate::table::Part;
 use crate::values;
 use reference::bench::BENCH_PACK;
 use reference::configuration::Configuration;

@@ -1,14 +1,16 @@
 //! Configurations and arguments at random, the edges of every rule and range favoured.
 
+use crate::older::FORMER_STOP;
 use crate::random::Random;
 use crate::rest_steps::steps;
+use crate::rests::DAY;
 use reference::bench::BENCH_PACK;
 use reference::configuration::Configuration;
 use reference::cycles::{CYCLES_AN_AGE_STEP, CYCLES_MAX, CYCLE_DRAIN_LIMIT};
 use reference::gauge::REST_COUNT_MAX;
 use reference::leak::GRAINS_PER_COUNT;
 use reference::refusal::{CURRENT_MAX, TEMPERATURE_MAX, TEMPERATURE_MIN, VOLTAGE_MAX, VOLTAGE_MIN};
-use reference::refusal::{ESTIMATE_REST_MIN, ESTIMATE_VOLTAGE_MAX, ESTIMATE_VOLTAGE_MIN};
+use reference::refusal::{ESTIMATE_REST_MIN, ESTIMATE_VOLTAGE_MAX, ESTIMATE_VOLTAGE_MIN, REST_MAX};
 
 /// The bench pack, that pack with some bytes changed, extremes, or any bytes. ILMD is never 0.
 pub fn configuration(random: &mut Random) -> [u8; 10] {
@@ -88,6 +90,31 @@ pub fn temperature(random: &mut Random, configuration: &Configuration) -> i32 {
     temperature.clamp(TEMPERATURE_MIN, TEMPERATURE_MAX)
 }
 
+/// The length of a rest of about a day, which was the greatest before A6.
+pub fn about_a_day(random: &mut Random) -> i64 {
+    i64::from(DAY) + random.range(-1, 1)
+}
+
+/// The length of a rest of a month, the greatest or one window less (paper 02, A6).
+pub fn about_a_month(random: &mut Random) -> i64 {
+    i64::from(REST_MAX) - random.pick(&[0, 0, 0, 1])
+}
+
+/// The length of a rest of more than a day: one window more, 65,536, a month, or a few days, whose windows are not so many.
+pub fn more_than_a_day(random: &mut Random) -> i64 {
+    match random.below(8) {
+        0 => i64::from(DAY) + 1,
+        1..=3 => 65_536,
+        4 | 5 => about_a_month(random),
+        _ => some_days(random),
+    }
+}
+
+/// The length of a rest of one day to four.
+pub fn some_days(random: &mut Random) -> i64 {
+    random.range(i64::from(DAY) + 3, 4 * i64::from(DAY))
+}
+
 /// The length of a rest from a charge h at a rate SD × W that ends with one of its first steps, or one window beside that; any length
 /// where none of them ends in time. At least 1 window, and at most so many.
 pub fn rest_length(random: &mut Random, h: i64, rate: i64, at_most: i64) -> i64 {
@@ -104,23 +131,29 @@ pub fn preview_length(random: &mut Random) -> usize {
     match random.below(8) {
         0 => 127,
         1 => 129,
-        2 => random.pick(&[0, 0, 1, 53, 64, 126, 130, 256, 384]),
+        2 => random.pick(&[0, 0, 1, 55, 64, 126, 130, 256, 384]),
         _ => 128,
     }
 }
 
-/// A count of rest windows: 0, 1, near what an estimate asks for, at its stop or near it, or any (paper 02, A4).
-pub fn rest_count(random: &mut Random) -> u16 {
+/// A count of rest windows: 0, 1, near what an estimate asks for, near the greatest of two bytes, small in its low two bytes, at its
+/// stop or near it, or any (paper 02, A4 and A6).
+pub fn rest_count(random: &mut Random) -> u32 {
     let (least, stop) = (i64::from(ESTIMATE_REST_MIN), i64::from(REST_COUNT_MAX));
-    let count = match random.below(8) {
+    let two_bytes = i64::from(FORMER_STOP);
+    let count = match random.below(12) {
         0 => random.range(0, 1),
         1 => least + random.range(-2, 1),
-        2 => stop - random.range(0, 1),
-        3 => stop - random.amount(20_000),
-        4 => random.amount(stop),
-        _ => random.range(0, stop),
+        2 => two_bytes + random.range(-1, 1),
+        3 => (two_bytes + 1) * (1 + random.amount(two_bytes - 1)) + random.pick(&[0, 0, 1, least - 1, least]),
+        4 => (two_bytes + 1) * (1 + random.amount(two_bytes - 1)) + random.range(0, least),
+        5 => stop - random.range(0, 1),
+        6 => stop - random.amount(i64::from(REST_MAX)),
+        7 => random.amount(stop),
+        8 => random.range(0, stop),
+        _ => random.range(0, two_bytes),
     };
-    count as u16
+    count as u32
 }
 
 /// CYCT: none, few, at a step of age or beside one, at its stop or near it, or any (paper 02, A5).

@@ -26,6 +26,17 @@ pub struct Writer {
 impl Writer {
     pub fn new(mut random: Random) -> Writer {
         let bytes = values::configuration(&mut random);
+        Writer::opened(random, bytes)
+    }
+
+    /// A list of a cell that leaks, most often as much as an SD allows.
+    pub fn leaking(mut random: Random) -> Writer {
+        let mut bytes = values::configuration(&mut random);
+        bytes[4] = bytes[4] & 0xF0 | random.pick(&[1, 15, 15, 15]);
+        Writer::opened(random, bytes)
+    }
+
+    fn opened(random: Random, bytes: [u8; 10]) -> Writer {
         let configuration = Configuration::new(&bytes).expect("ILMD above 0");
         let start = Start::Opened(bytes);
         Writer { random, configuration, history: History::opened(configuration), start, steps: Vec::new() }
@@ -55,10 +66,14 @@ impl Writer {
         self.steps.push(call.into());
     }
 
-    /// The handset's firmware is updated, from the newest form in every second one. The history goes on as if nothing had been, but for
-    /// what the form lacks.
+    /// The handset's firmware is updated, from the newest form in every second one.
     pub fn update(&mut self) {
-        let form = self.random.pick(&[1, 2, 3, saved::FORM, saved::FORM, saved::FORM]);
+        let form = self.random.pick(&[1, 2, 3, 4, saved::FORM, saved::FORM, saved::FORM, saved::FORM]);
+        self.update_from(form);
+    }
+
+    /// The handset's firmware is updated from a form. The history goes on as if nothing had been, but for what the form lacks.
+    pub fn update_from(&mut self, form: u8) {
         older::forget(form, &mut self.history);
         self.steps.push(Step::Update { form });
     }

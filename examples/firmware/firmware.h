@@ -1,4 +1,4 @@
-/* What the five example programs share: the gauge's bytes, calls that have to succeed, commands of the host, and registers shown. */
+/* What the six example programs share: the gauge's bytes, calls that have to succeed, commands of the host, and registers shown. */
 #ifndef FIRMWARE_H
 #define FIRMWARE_H
 

@@ -1,10 +1,12 @@
 /*
  * Holds what the header says of the saved bytes to the gauge: the forms and their lengths, where the counts of rest windows and of cycles stop, and
- * how the compensation ages with the cycles. Gauges of any age are made by putting CYCT into the bytes, as no firmware should.
+ * how the compensation ages with the cycles. Gauges of any age, and gauges that have rested for centuries, are made by putting the numbers into the
+ * bytes, as no firmware should.
  */
 #include "bench_pack.h"
 #include "gauge.h"
 #include "older_forms.h"
+#include "saved_places.h"
 
 #include <limits.h>
 #include <stdbool.h>
@@ -12,9 +14,6 @@
 #include <string.h>
 
 enum { TEMPERATURE = 1192, GRAINS_A_COUNT = 135000000 };
-
-/* Where form 4 keeps what forms 3 and 4 brought. */
-enum { SAVED_REST_COUNT = 41, SAVED_CYCLES = 43, SAVED_CYCLE_DRAIN = 45 };
 
 static int failures;
 
@@ -30,25 +29,32 @@ static void put(uint8_t *place, uint64_t number, size_t length)
         place[i] = (uint8_t)(number >> 8 * i);
 }
 
-/* The count of rest windows after so many of them. */
-static unsigned rest_count(uint32_t windows)
+/* After a rest, the count of rest windows that was so many before it. */
+static void rest_count(uint32_t before, uint32_t windows, uint32_t expected)
 {
     uint8_t saved[GAUGE_SAVED_LENGTH] = {0};
     uint32_t number = gauge_open(bench_pack, sizeof bench_pack, saved, sizeof saved);
 
-    while (number == GAUGE_OK && windows > 0) {
-        uint32_t count = windows < GAUGE_REST_MAX ? windows : GAUGE_REST_MAX;
-        number = gauge_rest(saved, sizeof saved, count, TEMPERATURE);
-        windows -= count;
-    }
-    return number != GAUGE_OK ? UINT_MAX : gauge_pair(saved + SAVED_REST_COUNT);
+    put(saved + SAVED_REST_COUNT, before, SAVED_REST_COUNT_LENGTH);
+    if (number == GAUGE_OK)
+        number = gauge_rest(saved, sizeof saved, windows, TEMPERATURE);
+    if (number == GAUGE_OK && saved_rest_count(saved) == expected)
+        return;
+    printf("%lu rest windows and %lu more: answered %u, counted %lu\n", (unsigned long)before, (unsigned long)windows, (unsigned)number,
+           (unsigned long)saved_rest_count(saved));
+    failures++;
 }
 
+/* 65535 is where the count stopped before form 5. */
 static void rest_counts(void)
 {
-    if (rest_count(GAUGE_REST_COUNT_MAX - 1) != GAUGE_REST_COUNT_MAX - 1 || rest_count(GAUGE_REST_COUNT_MAX) != GAUGE_REST_COUNT_MAX ||
-        rest_count(GAUGE_REST_COUNT_MAX + 1) != GAUGE_REST_COUNT_MAX)
-        fail("the count of rest windows stops elsewhere");
+    rest_count(0, GAUGE_REST_MAX, GAUGE_REST_MAX);
+    rest_count(65534, 1, 65535);
+    rest_count(65535, 1, 65536);
+    rest_count(GAUGE_REST_COUNT_MAX - GAUGE_REST_MAX - 1, GAUGE_REST_MAX, GAUGE_REST_COUNT_MAX - 1);
+    rest_count(GAUGE_REST_COUNT_MAX - GAUGE_REST_MAX, GAUGE_REST_MAX, GAUGE_REST_COUNT_MAX);
+    rest_count(GAUGE_REST_COUNT_MAX - GAUGE_REST_MAX + 1, GAUGE_REST_MAX, GAUGE_REST_COUNT_MAX);
+    rest_count(GAUGE_REST_COUNT_MAX, GAUGE_REST_MAX, GAUGE_REST_COUNT_MAX);
 }
 
 static unsigned pair(const uint8_t *saved, enum gauge_register address)
@@ -68,8 +74,8 @@ static uint32_t aged(uint8_t id3, unsigned cycles, uint8_t *saved)
     memcpy(pack, bench_pack, sizeof pack);
     pack[GAUGE_REG_ID3 - GAUGE_REG_ILMD] = id3;
     uint32_t number = gauge_open(pack, sizeof pack, saved, GAUGE_SAVED_LENGTH);
-    put(saved + SAVED_CYCLES, cycles, 2);
-    put(saved + SAVED_CYCLE_DRAIN, UINT64_C(1024) * GRAINS_A_COUNT - 1, 8);
+    put(saved + SAVED_CYCLES, cycles, SAVED_PAIR_LENGTH);
+    put(saved + SAVED_CYCLE_DRAIN, UINT64_C(1024) * GRAINS_A_COUNT - 1, SAVED_GRAINS_LENGTH);
     if (number == GAUGE_OK)
         number = gauge_write(saved, GAUGE_SAVED_LENGTH, GAUGE_REG_MODE, GAUGE_MODE_DONE);
     return number != GAUGE_OK ? number : gauge_write(saved, GAUGE_SAVED_LENGTH, GAUGE_REG_CTRL, GAUGE_KEY_DONE);
@@ -99,7 +105,7 @@ static unsigned cac(uint8_t id3, unsigned cycles)
     uint8_t saved[GAUGE_SAVED_LENGTH];
     uint32_t number = aged(id3, cycles, saved);
 
-    put(saved + SAVED_CYCLE_DRAIN, 0, 8);
+    put(saved + SAVED_CYCLE_DRAIN, 0, SAVED_GRAINS_LENGTH);
     if (number == GAUGE_OK)
         number = gauge_window(saved, sizeof saved, -800, 3600, TEMPERATURE);
     return number != GAUGE_OK ? UINT_MAX : pair(saved, GAUGE_REG_CAC);
@@ -142,6 +148,7 @@ static const struct {
     [1] = {kept_form_1, sizeof kept_form_1},
     [2] = {kept_form_2, sizeof kept_form_2},
     [3] = {kept_form_3, sizeof kept_form_3},
+    [4] = {kept_form_4, sizeof kept_form_4},
 };
 
 static bool is_form(unsigned number)

@@ -4,6 +4,7 @@
  */
 #include "bench_pack.h"
 #include "firmware.h"
+#include "saved_places.h"
 
 #include <stdio.h>
 #include <stdlib.h>
@@ -33,18 +34,8 @@ static void show_refusals(void)
     show_refusal("reply 4, place 3", number, saved, before);
 }
 
-/* Where form 4 keeps some of its fields. Firmware needs none of this; it is here to damage them as a bad flash cell would. */
-enum saved_place {
-    SAVED_FORM = 0,
-    SAVED_HELD_HIGHEST = 18,
-    SAVED_DRAIN_LOWEST = 19,
-    SAVED_SI_HIGH = 30,
-    SAVED_TEMP_HIGH = 36,
-    SAVED_FLAGS = 40,
-    SAVED_CYCLE_DRAIN_HIGHEST = 52
-};
-
-static void show_damage(const char *field, enum saved_place place, uint8_t bits)
+/* Flips bits of a byte, as a bad flash cell would. */
+static void show_damage(const char *field, size_t place, uint8_t bits)
 {
     uint8_t damaged[GAUGE_SAVED_LENGTH], before[GAUGE_SAVED_LENGTH];
 
@@ -57,12 +48,12 @@ static void show_damage(const char *field, enum saved_place place, uint8_t bits)
 static void show_damages(void)
 {
     show_damage("another form", SAVED_FORM, 0x80);
-    show_damage("charge above capacity", SAVED_HELD_HIGHEST, 0x40);
-    show_damage("drain without a run", SAVED_DRAIN_LOWEST, 0x01);
-    show_damage("SI above its limit", SAVED_SI_HIGH, 0x02);
-    show_damage("temperature of no range", SAVED_TEMP_HIGH, 0x80);
+    show_damage("charge above capacity", SAVED_CHARGE + SAVED_GRAINS_LENGTH - 1, 0x40);
+    show_damage("drain without a run", SAVED_RUN_DRAIN, 0x01);
+    show_damage("SI above its limit", SAVED_SI + SAVED_PAIR_LENGTH - 1, 0x02);
+    show_damage("temperature of no range", SAVED_TEMP + SAVED_PAIR_LENGTH - 1, 0x80);
     show_damage("flag that is none", SAVED_FLAGS, 0x08);
-    show_damage("cycle drain too great", SAVED_CYCLE_DRAIN_HIGHEST, 0x01);
+    show_damage("cycle drain too great", SAVED_CYCLE_DRAIN + SAVED_GRAINS_LENGTH - 1, 0x01);
 }
 
 static void power_cut(void)
@@ -117,12 +108,13 @@ static void standby(void)
 /* A rest counts no current and keeps SI. A handset that wakes in every window may make rests of one: the gauge ends the same. */
 static void day_off(void)
 {
+    enum { DAY_WINDOWS = 16875 };
     uint8_t woken[GAUGE_SAVED_LENGTH];
 
     memcpy(woken, saved, sizeof woken);
-    must("gauge_rest", gauge_rest(saved, sizeof saved, GAUGE_REST_MAX, 1180));
+    must("gauge_rest", gauge_rest(saved, sizeof saved, DAY_WINDOWS, 1180));
     show("a day off");
-    for (int window = 0; window < GAUGE_REST_MAX; window++)
+    for (int window = 0; window < DAY_WINDOWS; window++)
         must("gauge_rest", gauge_rest(woken, sizeof woken, 1, 1180));
     printf("%-24s gauge %s\n", "woken in every window", memcmp(woken, saved, sizeof woken) == 0 ? "equal" : "differs");
 }

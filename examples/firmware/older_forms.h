@@ -72,4 +72,29 @@ static const uint8_t kept_form_3[43] = {
     0xBF, 0x02,                                                 /* windows of rest: 703 */
 };
 
+/*
+ * Form 4: what version 4.0.0 kept of the bench pack on the shelf, after these calls:
+ *   gauge_open;
+ *   a season, 300 times: 1 window of 20, 4150, 1192, which is full by taper; 230 windows of -2800, 3650, 1200;
+ *   the calls of form 2 between its opening and its rest;
+ *   5 rests of 16875, 1140: five days. A day was the most that a rest of version 4.0.0 could have, and its count of their windows stopped at 65535.
+ */
+static const uint8_t kept_form_4[53] = {
+    0x04,                                                       /* form */
+    0x04, 0x5E, 0x77, 0x05, 0x21, 0x10, 0x00, 0x00, 0x6C, 0x15, /* configuration */
+    0xC8, 0x28, 0xAA, 0x1E, 0x11, 0x00, 0x00, 0x00,             /* charge, grains: NAC 544 */
+    0x38, 0xD7, 0x14, 0x11, 0x0F, 0x00, 0x00, 0x00,             /* drain of the run, grains */
+    0x00, 0x04,                                                 /* LMD 1024 */
+    0x6A, 0x00,                                                 /* SI 106, in sixteenths */
+    0x00, 0x00,                                                 /* current 0 */
+    0x42, 0x0E,                                                 /* VOLT 3650 */
+    0x74, 0x04,                                                 /* TEMP 1140 */
+    0xE8, 0x03,                                                 /* AR 1000 */
+    0x40,                                                       /* MODE */
+    0x14,                                                       /* FLAGS: CI, VDQ */
+    0xFF, 0xFF,                                                 /* windows of rest: 65535 */
+    0x0C, 0x01,                                                 /* CYCT 268 */
+    0x00, 0xBA, 0xA7, 0xC0, 0x19, 0x00, 0x00, 0x00,             /* drain of the cycle, grains */
+};
+
 #endif

@@ -8,9 +8,12 @@
  * Neither counted the windows of rests. The count begins with the update, and an estimate asks for a rest after it.
  * Version 3.0.0 kept form 3, with that count: the cell had rested for an hour, and an estimate is given at once.
  * None of the three counted cycles: CYCT begins with 0 at the update, however old the cell is.
+ * Version 4.0.0 kept form 4, with CYCT and the drain of the cycle under way, which the drive after the update completes. Its count of rest windows had
+ * stopped at 65535 after five days on the shelf: it is carried over as that number and goes on from it.
  */
 #include "firmware.h"
 #include "older_forms.h"
+#include "saved_places.h"
 
 #include <stdbool.h>
 #include <stdio.h>
@@ -37,9 +40,11 @@ static const struct version {
     const uint8_t *kept;
     size_t length;
     bool si_in_units;
-    bool counts_rests;
+    uint32_t rest_windows;     /* the count in the bytes; 0 where the form has none */
+    unsigned cycles;           /* CYCT likewise */
     struct shown shown;        /* when it kept the bytes */
     struct shown after[PARTS]; /* where it went on with the drive itself */
+    unsigned cycles_after;     /* CYCT at the end of that */
 } versions[] = {
     {
         .name = "1.0.0",
@@ -72,7 +77,7 @@ static const struct version {
         .name = "3.0.0",
         .kept = kept_form_3,
         .length = sizeof kept_form_3,
-        .counts_rests = true,
+        .rest_windows = 703,
         .shown = {545, 1024, 53, 20, 545, 65535, 7, 4671},
         .after =
             {
@@ -81,6 +86,22 @@ static const struct version {
                 {63, 1008, 6, 2, 0, 0, 12, 315},
                 {276, 1008, 27, 128, 276, 65535, 12, 1380},
             },
+    },
+    {
+        .name = "4.0.0",
+        .kept = kept_form_4,
+        .length = sizeof kept_form_4,
+        .rest_windows = 65535,
+        .cycles = 268,
+        .shown = {544, 1024, 53, 20, 544, 65535, 7, 4662},
+        .after =
+            {
+                {543, 1024, 53, 20, 543, 2715, 12, 2715},
+                {88, 1024, 8, 20, 0, 0, 12, 440},
+                {63, 1009, 6, 2, 0, 0, 12, 315},
+                {276, 1009, 27, 128, 276, 65535, 12, 1380},
+            },
+        .cycles_after = 269,
     },
 };
 
@@ -107,12 +128,6 @@ static void show_older_form(const uint8_t *flash)
     show_refusal(call, gauge_window(copy, length, -12, 3800, 1196), copy, flash);
 }
 
-static void show_host_bytes_and_cycles(void)
-{
-    printf("%-24s 0x%02X, %u\n", "MODE and AR", (unsigned)mode(), at_rate());
-    printf("%-24s %u\n", "CYCT", cycles());
-}
-
 static uint32_t estimate(uint16_t *counts, int32_t *distance)
 {
     return gauge_estimate(saved, sizeof saved, 3700, counts, distance);
@@ -127,7 +142,7 @@ static void show_estimate(const struct version *version)
 
     memcpy(before, saved, sizeof saved);
     uint32_t number = estimate(&counts, &distance);
-    if (!version->counts_rests) {
+    if (version->rest_windows < GAUGE_ESTIMATE_REST_MIN) {
         show_refusal("estimate", number, saved, before);
         return;
     }
@@ -135,16 +150,47 @@ static void show_estimate(const struct version *version)
     printf("%-24s %u counts, distance %ld\n", "estimate", (unsigned)counts, (long)distance);
 }
 
-/* Ends the program unless the registers are those that the older version showed. */
+/* Ends the program unless it goes on as the older version. */
+static void must_be(const char *what, const struct version *version, bool same)
+{
+    if (same)
+        return;
+    printf("%s: not as version %s\n", what, version->name);
+    exit(EXIT_FAILURE);
+}
+
+/* The registers are those that the older version showed. */
 static void must_go_on_as(const char *moment, const struct version *version, const struct shown *shown)
 {
     struct shown now = shown_read();
 
-    if (now.nac == shown->nac && now.lmd == shown->lmd && now.rsoc == shown->rsoc && now.flags == shown->flags && now.cac == shown->cac &&
-        now.tte == shown->tte && (version->si_in_units || (now.si == shown->si && now.stte == shown->stte)))
-        return;
-    printf("%s: not as version %s\n", moment, version->name);
-    exit(EXIT_FAILURE);
+    must_be(moment, version,
+            now.nac == shown->nac && now.lmd == shown->lmd && now.rsoc == shown->rsoc && now.flags == shown->flags &&
+                now.cac == shown->cac && now.tte == shown->tte &&
+                (version->si_in_units || (now.si == shown->si && now.stte == shown->stte)));
+}
+
+static void show_host_bytes(void)
+{
+    printf("%-24s 0x%02X, %u\n", "MODE and AR", (unsigned)mode(), at_rate());
+}
+
+static void show_cycles(const char *moment, const struct version *version, unsigned of_version)
+{
+    printf("%-24s %u\n", moment, cycles());
+    must_be(moment, version, cycles() == of_version);
+}
+
+/* The number is carried over as it was kept, and the next rest goes on from it. */
+static void show_rest_windows(const struct version *version)
+{
+    uint8_t copy[GAUGE_SAVED_LENGTH];
+
+    memcpy(copy, saved, sizeof copy);
+    must("gauge_rest", gauge_rest(copy, sizeof copy, 1, 1192));
+    printf("%-24s %lu, with one more %lu\n", "windows of rest", (unsigned long)saved_rest_count(saved),
+           (unsigned long)saved_rest_count(copy));
+    must_be("windows of rest", version, saved_rest_count(saved) == version->rest_windows);
 }
 
 static void show_by_version(const char *moment, const struct version *version, const struct shown *shown)
@@ -173,10 +219,13 @@ static void update(const struct version *version)
     must("gauge_convert", start(flash));
     show("converted");
     must_go_on_as("converted", version, &version->shown);
-    show_host_bytes_and_cycles();
+    show_host_bytes();
+    show_cycles("CYCT", version, version->cycles);
+    show_rest_windows(version);
     show_estimate(version);
     for (size_t i = 0; i < PARTS; i++)
         go_on(&parts[i], version, &version->after[i]);
+    show_cycles("CYCT after the drive", version, version->cycles_after);
 }
 
 /* The new firmware keeps the newest form. At the next start that comes out of gauge_convert as it is, the windows of rest with it. */

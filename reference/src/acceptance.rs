@@ -5,7 +5,7 @@ use crate::gauge::{Gauge, CHGS, CI, EDV1, EDVF, VDQ};
 use crate::leak::GREATEST_DRAIN;
 use crate::refusal;
 
-/// All but length, form, ILMD and SI.
+/// All but length, form, ILMD, SI and the cycle drain.
 pub fn accepted(gauge: &Gauge) -> bool {
     charge_accepted(gauge) && measures_accepted(gauge) && flags_accepted(gauge)
 }

@@ -16,8 +16,8 @@ pub const INIT: u8 = 0x04;
 /// The parts of a unit in which SI is kept (paper 02, A1).
 pub const SIXTEENTHS: i32 = 16;
 
-/// Where the count of rest windows stops (paper 02, A4).
-pub const REST_COUNT_MAX: i32 = 65_535;
+/// Where the count of rest windows stops (paper 02, A4 and A6): the greatest number of its four bytes.
+pub const REST_COUNT_MAX: u32 = 4_294_967_295;
 
 /// The fields of the saved gauge. IAV is not one of them: it is |c| always.
 #[derive(Clone, Copy, Debug, PartialEq, Eq)]
@@ -38,7 +38,7 @@ pub struct Gauge {
     pub mode: u8,
     pub flags: u8,
     /// Rest windows since the last window with c not 0, since opening or a reset (paper 02, A4).
-    pub rest_count: i32,
+    pub rest_count: u32,
     /// Cycles, and what was discharged beyond them, in grains (paper 02, A5). The opened gauge has neither.
     pub cyct: i32,
     pub cycle_drain: i64,

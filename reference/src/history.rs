@@ -1,4 +1,4 @@
-//! The history of demand 3 (paper 01, "Fixing points of demand 3"), the count of rest windows and the cycles (paper 02, A4 and A5).
+//! The history of demand 3 (paper 01, "Fixing points of demand 3"), the count of rest windows and the cycles (paper 02, A4 to A6).
 //!
 //! It is fed the opened configuration and the calls' arguments and takes nothing from the gauge. It shares with the gauge only the
 //! rules that are about numbers alone: leak, full test, what a run teaches, which command a key picks, which refusal arguments give.
@@ -42,8 +42,9 @@ pub struct History {
     pub run: Option<i64>,
     pub mode: u8,
     pub ar: i32,
-    /// Rest windows since the last window with c not 0, since opening or a reset, at most 65,535 (paper 02, A4).
-    pub rest_count: i32,
+    /// Rest windows since the last window with c not 0, since opening or a reset, however many (paper 02, A4). `rest_count` is where
+    /// they stop.
+    pub rest_windows: u64,
     /// Cycles, at most 65,535, and the discharge in grains that no cycle has taken yet (paper 02, A5).
     pub cycles: i32,
     pub cycle_drain: i64,
@@ -61,7 +62,7 @@ impl History {
             run: None,
             mode: configuration.opened_mode(),
             ar: 0,
-            rest_count: 0,
+            rest_windows: 0,
             cycles: 0,
             cycle_drain: 0,
         }
@@ -80,7 +81,7 @@ impl History {
             run: gauge.vdq().then_some(gauge.dcr),
             mode: gauge.mode,
             ar: gauge.ar,
-            rest_count: gauge.rest_count,
+            rest_windows: u64::from(gauge.rest_count),
             cycles: gauge.cyct,
             cycle_drain: gauge.cycle_drain,
         }
@@ -95,6 +96,11 @@ impl History {
     /// DCR as demand 3 has it: R, or 0 without a run.
     pub fn r(&self) -> i64 {
         self.run.unwrap_or(0)
+    }
+
+    /// The count of rest windows as a gauge has it: at most 4,294,967,295 (paper 02, A6).
+    pub fn rest_count(&self) -> u32 {
+        self.rest_windows.min(u64::from(REST_COUNT_MAX)) as u32
     }
 
     fn fix(&mut self, charge: i64) {
@@ -116,7 +122,7 @@ impl History {
             Call::Write { address, value } => refusal::write(address, value, self.mode, self.ar),
             Call::Read { address, count, reply_length, place } => refusal::read(address, count, reply_length, place),
             Call::Preview { key, reply_length } => refusal::preview(key, self.mode, self.ar, reply_length).map(|_| ()),
-            Call::Estimate { voltage } => refusal::estimate(self.rest_count, voltage),
+            Call::Estimate { voltage } => refusal::estimate(self.rest_count(), voltage),
         }
     }
 
@@ -138,7 +144,7 @@ impl History {
         self.q += i128::from(c);
         self.count_cycles(c);
         if c != 0 {
-            self.rest_count = 0;
+            self.rest_windows = 0;
         }
         if c > 0 {
             self.run = None;
@@ -204,7 +210,7 @@ impl History {
             let leak = leak::leak(self.h(), self.configuration.sd(), w);
             self.k += i128::from(leak);
             self.drain(leak);
-            self.rest_count = (self.rest_count + 1).min(REST_COUNT_MAX);
+            self.rest_windows += 1;
         }
         FixingPoints::default()
     }
@@ -250,7 +256,7 @@ impl History {
                 self.run = None;
                 self.mode = self.configuration.opened_mode();
                 self.ar = 0;
-                self.rest_count = 0;
+                self.rest_windows = 0;
                 FixingPoints::default()
             }
         };

@@ -26,11 +26,12 @@ pub const VOLTAGE_MIN: i32 = 2_600;
 pub const VOLTAGE_MAX: i32 = 4_500;
 pub const TEMPERATURE_MIN: i32 = 1_012;
 pub const TEMPERATURE_MAX: i32 = 1_372;
-pub const REST_MAX: u32 = 16_875;
+/// Thirty days (paper 02, A6).
+pub const REST_MAX: u32 = 506_250;
 pub const REGISTERS: u32 = 128;
 
 // What an estimate asks for (paper 02, A4): rest windows, and a voltage that the table has.
-pub const ESTIMATE_REST_MIN: i32 = 422;
+pub const ESTIMATE_REST_MIN: u32 = 422;
 pub const ESTIMATE_VOLTAGE_MIN: i32 = 3_000;
 pub const ESTIMATE_VOLTAGE_MAX: i32 = 4_200;
 
@@ -101,7 +102,7 @@ pub fn read(address: u32, count: u32, reply_length: usize, place: u32) -> Result
 }
 
 /// 15, then 16: after too little rest a voltage outside the table is 15 too (paper 02, A4).
-pub fn estimate(rest_count: i32, voltage: i32) -> Result<(), u32> {
+pub fn estimate(rest_count: u32, voltage: i32) -> Result<(), u32> {
     if rest_count < ESTIMATE_REST_MIN {
         return Err(NOT_RESTED);
     }

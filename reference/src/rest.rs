@@ -1,4 +1,4 @@
-//! A rest of n windows at t (paper 01, the last paragraph of "A window"; the count: paper 02, A4).
+//! A rest of n windows at t (paper 01, the last paragraph of "A window"; the count: paper 02, A4 and A6).
 
 use crate::gauge::{Gauge, CHGS, REST_COUNT_MAX};
 use crate::leak;
@@ -13,5 +13,11 @@ pub fn rest(gauge: &mut Gauge, windows: u32, t: i32) {
         gauge.take_leak(w);
         gauge.end_run_that_passes();
     }
-    gauge.rest_count = (gauge.rest_count + windows as i32).min(REST_COUNT_MAX);
+    gauge.rest_count = counted(gauge.rest_count, windows);
+}
+
+/// The count after so many windows more: the sum is formed in 64 bits, so that it does not wrap before it stops.
+fn counted(rest_count: u32, windows: u32) -> u32 {
+    let sum = u64::from(rest_count) + u64::from(windows);
+    sum.min(u64::from(REST_COUNT_MAX)) as u32
 }

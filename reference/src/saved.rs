@@ -1,17 +1,16 @@
-//! The newest form of the saved bytes: what saving writes, and the only form that the calls take, converting aside (paper 02, A1, A4
-//! and A5).
+//! The newest form of the saved bytes: what saving writes, and the only form that the calls take, converting aside (paper 02, A1).
 
-use crate::forms;
+use crate::forms::{self, FORM_5};
 use crate::gauge::Gauge;
 use crate::refusal;
 
-pub const FORM: u8 = 4;
-pub const LENGTH: usize = 53;
+pub const FORM: u8 = 5;
+pub const LENGTH: usize = FORM_5.length();
 
 /// The gauge that bytes of the newest form hold, or 14. An older form is 14 here; `forms::load` reads it.
 pub fn load(saved: &[u8]) -> Result<Gauge, u32> {
     match saved.first() {
-        Some(&FORM) => forms::load(saved),
+        Some(&FORM) => forms::held(&FORM_5, saved).ok_or(refusal::SAVED),
         _ => Err(refusal::SAVED),
     }
 }
@@ -28,7 +27,5 @@ pub fn store(gauge: &Gauge, saved: &mut [u8; LENGTH]) {
     }
     saved[39] = gauge.mode;
     saved[40] = gauge.flags;
-    saved[41..43].copy_from_slice(&(gauge.rest_count as u16).to_le_bytes());
-    saved[43..45].copy_from_slice(&(gauge.cyct as u16).to_le_bytes());
-    saved[45..53].copy_from_slice(&gauge.cycle_drain.to_le_bytes());
+    FORM_5.put_behind_first(gauge, saved);
 }

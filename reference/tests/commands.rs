@@ -109,7 +109,7 @@ fn opening_takes_bit_7_of_pkcfg() {
     let mut pack = reference::bench::BENCH_PACK;
     for (pkcfg, mode) in [(0x80, 0xC4), (0x7F, 0x44), (0xFF, 0xC4)] {
         pack[6] = pkcfg;
-        let mut bytes = [0; 53];
+        let mut bytes = [0; 55];
         assert_eq!(open(&pack, &mut bytes), 0);
         assert_eq!(gauge(&bytes).mode, mode);
     }

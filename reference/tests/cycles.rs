@@ -81,7 +81,7 @@ fn an_lmd_made_smaller_leaves_cycles_to_the_next_window() {
     }
     assert_eq!(cycles(&after(bytes, -3, 3600, 1192)), (7, 96 * G + 102_240_000 + discharge(3)));
     // A rest counts nothing, and neither does a refused window.
-    assert_eq!(cycles(&after_rest(bytes, 16_875, 1192)), cycles(&bytes));
+    assert_eq!(cycles(&after_rest(bytes, MONTH, 1192)), cycles(&bytes));
     assert_eq!(calls::window(&mut bytes.clone(), 0, 2_599, 1192), 4);
 }
 
@@ -141,7 +141,7 @@ fn a_leak_does_not_count() {
 #[test]
 fn a_rest_counts_nothing() {
     for drain in [0, 77, 1024 * G - 1, 1024 * G, 5000 * G] {
-        assert_eq!(cycles(&after_rest(used(1024, 5, drain), 16_875, 1372)), (5, drain));
+        assert_eq!(cycles(&after_rest(used(1024, 5, drain), MONTH, 1372)), (5, drain));
     }
 }
 

@@ -11,7 +11,7 @@ const COUNTS_BEFORE: u16 = 0xEEEE;
 const DISTANCE_BEFORE: i32 = -1_234_567;
 
 /// A gauge with a count of rest windows, a learned capacity and a NAC.
-fn cell(rest_count: i32, lmd: i32, nac: i64) -> Saved {
+fn cell(rest_count: u32, lmd: i32, nac: i64) -> Saved {
     with(|gauge| *gauge = Gauge { rest_count, lmd, h: nac * G, ..*gauge })
 }
 
@@ -110,8 +110,12 @@ fn number_15_below_422_rest_windows() {
     for rest_count in [0, 1, 420, 421] {
         refuses(&cell(rest_count, 1000, 0), 3700, 15);
     }
-    for rest_count in [422, 423, 16_875, 65_534, 65_535] {
+    for rest_count in [422, 423, 16_875, 65_534, 65_535, 506_250, 4_294_967_294, 4_294_967_295] {
         assert_eq!(estimated(&cell(rest_count, 1000, 0), 3700), (0, 350, 350));
+    }
+    // The whole count is asked, not its low bytes (paper 02, A6).
+    for rest_count in [65_536, 65_537, 65_536 + 421, 2 * 65_536, 2 * 65_536 + 421, 1 << 24, (1 << 31) + 421, 0xFFFF_0000] {
+        assert_eq!(estimated(&cell(rest_count, 1000, 0), 3700), (0, 350, 350), "{rest_count}");
     }
 }
 
@@ -131,7 +135,7 @@ fn number_14_comes_first_then_15() {
     }
     for (rest_count, voltage) in [(422, 3_700), (0, 3_700), (422, 2_999), (0, 4_201)] {
         refuses(&cell(rest_count, 0, 0), voltage, 14);
-        refuses(&cell(rest_count, 1000, 0)[..52], voltage, 14);
+        refuses(&cell(rest_count, 1000, 0)[..54], voltage, 14);
     }
 }
 

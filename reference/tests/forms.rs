@@ -1,38 +1,16 @@
-//! Bytes of every form: what loading makes of them, and converting (paper 02, A1, A4 and A5).
+//! Bytes of every form: what loading makes of them, and converting (paper 02, A1, A4, A5 and A6).
 
 mod common;
 use common::*;
 use reference::calls::{convert, estimate, preview, read, rest, window, write};
-use reference::gauge::{Gauge, EDV1, VDQ};
+use reference::gauge::{EDV1, VDQ};
 use reference::trace::Trace;
 use reference::{forms, registers, saved};
 
-/// A gauge in which every field differs from the opened one, as bytes.
-fn used() -> Saved {
-    with(|gauge| {
-        *gauge = Gauge {
-            h: 500 * G + 77,
-            dcr: 33,
-            lmd: 900,
-            si_sixteenths: 16 * 7,
-            c: -40,
-            volt: 3900,
-            temp: 1100,
-            ar: 0xBEEF,
-            mode: 0x5A,
-            flags: VDQ | EDV1,
-            rest_count: 0x1234,
-            cyct: 0x5678,
-            cycle_drain: 899 * G + 5,
-            ..*gauge
-        }
-    })
-}
-
-/// The same without cycles: what form 3 can hold.
+/// The used gauge without cycles: what form 3 can hold.
 fn without_cycles() -> Saved {
     let mut bytes = used();
-    bytes[43..].fill(0);
+    bytes[45..].fill(0);
     bytes
 }
 
@@ -43,30 +21,34 @@ fn unrested() -> Saved {
     bytes
 }
 
-/// Converts into bytes that hold something else.
-fn converted(old: &[u8]) -> Result<Saved, u32> {
-    let mut bytes = [0xEE; 53];
-    match convert(old, &mut bytes) {
-        0 => Ok(bytes),
-        refused => {
-            assert_eq!(bytes, [0xEE; 53]);
-            Err(refused)
-        }
-    }
+/// The same with a count that four bytes alone can hold.
+fn long_rested() -> Saved {
+    let mut bytes = used();
+    bytes[41..45].copy_from_slice(&0x89AB_CDEFu32.to_le_bytes());
+    bytes
 }
 
 #[test]
 fn the_newest_form_is_converted_to_itself() {
-    for bytes in [used(), without_cycles(), unrested(), opened(), line_three(), with_si(&opened(), 320), with_si(&opened(), 153)] {
+    let others = [opened(), line_three(), with_si(&opened(), 320), with_si(&opened(), 153)];
+    for bytes in [used(), without_cycles(), unrested(), long_rested()].into_iter().chain(others) {
         assert_eq!(converted(&bytes), Ok(bytes));
     }
+}
+
+#[test]
+fn form_4_has_a_narrower_count_and_lacks_nothing() {
+    let (old, new) = (as_form_4(&used()), used());
+    assert_eq!(converted(&old), Ok(new));
+    assert_eq!((old[0], new[0], &new[43..45]), (4, 5, &[0; 2][..]));
+    assert_eq!((&old[1..43], &old[43..]), (&new[1..43], &new[45..]));
 }
 
 #[test]
 fn form_3_lacks_the_cycles_alone() {
     let (old, new) = (as_form_3(&used()), without_cycles());
     assert_eq!(converted(&old), Ok(new));
-    assert_eq!((old[0], new[0], &new[43..]), (3, 4, &[0; 10][..]));
+    assert_eq!((old[0], new[0], &new[43..]), (3, 5, &[0; 12][..]));
     assert_eq!(old[1..], new[1..43]);
 }
 
@@ -74,7 +56,7 @@ fn form_3_lacks_the_cycles_alone() {
 fn form_2_lacks_the_count_too() {
     let (old, new) = (as_form_2(&used()), unrested());
     assert_eq!(converted(&old), Ok(new));
-    assert_eq!((old[0], new[0], &new[41..]), (2, 4, &[0; 12][..]));
+    assert_eq!((old[0], new[0], &new[41..]), (2, 5, &[0; 14][..]));
     assert_eq!(old[1..], new[1..41]);
 }
 
@@ -82,25 +64,29 @@ fn form_2_lacks_the_count_too() {
 fn form_1_differs_in_si_too() {
     let (old, new) = (as_form_1(&used()), unrested());
     assert_eq!(converted(&old), Ok(new));
-    assert_eq!((old[0], old[29], old[30], new[0], new[29], new[30]), (1, 7, 0, 4, 112, 0));
-    assert_eq!((&old[1..29], &old[31..], &new[41..]), (&new[1..29], &new[31..41], &[0; 12][..]));
+    assert_eq!((old[0], old[29], old[30], new[0], new[29], new[30]), (1, 7, 0, 5, 112, 0));
+    assert_eq!((&old[1..29], &old[31..], &new[41..]), (&new[1..29], &new[31..41], &[0; 14][..]));
 }
 
 #[test]
-fn older_forms_read_the_cycles_as_0() {
-    for old in as_older_forms(&used()) {
-        assert_eq!(forms::load(&old).map(|gauge| (gauge.cyct, gauge.cycle_drain)), Ok((0, 0)));
+fn forms_1_to_3_read_the_cycles_as_0() {
+    for old in &as_older_forms(&used())[..3] {
+        assert_eq!(forms::load(old).map(|gauge| (gauge.cyct, gauge.cycle_drain)), Ok((0, 0)));
         // LMD is 900: the discharge since the update is what counts.
-        let discharged = (0..22).fold(converted(&old).unwrap(), |bytes, _| after(bytes, -28_011, 3600, 1192));
+        let discharged = (0..22).fold(converted(old).unwrap(), |bytes, _| after(bytes, -28_011, 3600, 1192));
         assert_eq!(pair(&discharged, 0x2A), 0);
         assert_eq!(pair(&after(discharged, -28_011, 3600, 1192), 0x2A), 1);
     }
-    assert_eq!(forms::load(&used()).map(|gauge| (gauge.cyct, gauge.cycle_drain)), Ok((0x5678, 899 * G + 5)));
+    for kept in [as_form_4(&used()).to_vec(), used().to_vec()] {
+        assert_eq!(forms::load(&kept).map(|gauge| (gauge.cyct, gauge.cycle_drain)), Ok((0x5678, 899 * G + 5)));
+    }
 }
 
 #[test]
 fn forms_1_and_2_read_the_count_as_0() {
-    assert_eq!(forms::load(&as_form_3(&used())).map(|gauge| gauge.rest_count), Ok(0x1234));
+    for kept in [as_form_3(&used()).to_vec(), as_form_4(&used()).to_vec(), used().to_vec()] {
+        assert_eq!(forms::load(&kept).map(|gauge| gauge.rest_count), Ok(0x1234));
+    }
     for old in [as_form_1(&used()), as_form_2(&used())] {
         assert_eq!(forms::load(&old).map(|gauge| gauge.rest_count), Ok(0));
         let bytes = converted(&old).unwrap();
@@ -135,12 +121,13 @@ fn form_1_holds_at_most_2_s0() {
 }
 
 #[test]
-fn forms_2_to_4_hold_at_most_32_s0() {
+fn forms_2_to_5_hold_at_most_32_s0() {
     for si in 0..=u16::MAX {
         let expected = if si <= 320 { Ok(i32::from(si)) } else { Err(14) };
         assert_eq!(forms::load(&old_with_si(2, &opened(), si)).map(|gauge| gauge.si_sixteenths), expected);
         let newest = with_si(&opened(), si);
         assert_eq!(forms::load(&as_form_3(&newest)).map(|gauge| gauge.si_sixteenths), expected);
+        assert_eq!(forms::load(&as_form_4(&newest)).map(|gauge| gauge.si_sixteenths), expected);
         assert_eq!(forms::load(&newest).map(|gauge| gauge.si_sixteenths), expected);
     }
 }
@@ -178,20 +165,21 @@ fn what_all_forms_have_is_asked_of_each() {
 }
 
 #[test]
-fn form_4_alone_is_held_to_a_cycle_drain_below_65535_counts() {
+fn forms_4_and_5_are_held_to_a_cycle_drain_below_65535_counts() {
     for (drain, number) in
         [(65_535 * 135_000_000 - 1, None), (65_535 * 135_000_000, Some(14)), (u64::MAX, Some(14)), (1 << 63, Some(14))]
     {
         let mut bytes = used();
-        bytes[45..].copy_from_slice(&drain.to_le_bytes());
+        bytes[47..].copy_from_slice(&drain.to_le_bytes());
         assert_eq!(converted(&bytes).err(), number);
-        assert!(as_older_forms(&bytes).iter().all(|old| converted(old).is_ok()));
+        assert_eq!(converted(&as_form_4(&bytes)).err(), number);
+        assert!(as_older_forms(&bytes)[..3].iter().all(|old| converted(old).is_ok()));
     }
 }
 
 #[test]
 fn each_number_has_its_length() {
-    let long = [opened().as_slice(), &[0; 11]].concat();
+    let long = [opened().as_slice(), &[0; 9]].concat();
     for form in 0..=255 {
         for length in 1..=64 {
             let mut bytes = long[..length].to_vec();
@@ -200,7 +188,7 @@ fn each_number_has_its_length() {
             if length > 29 {
                 bytes[29] = 10;
             }
-            let is_form = matches!((form, length), (1 | 2, 41) | (3, 43) | (4, 53));
+            let is_form = matches!((form, length), (1 | 2, 41) | (3, 43) | (4, 53) | (5, 55));
             assert_eq!(forms::load(&bytes).is_ok(), is_form, "form {form} of {length} bytes");
         }
     }
@@ -231,7 +219,7 @@ fn the_calls_take_the_newest_form_alone() {
 #[test]
 fn converting_refuses_14_before_13_and_changes_no_byte() {
     let damaged = old_with_si(1, &opened(), 21);
-    for length in [0, 1, 40, 41, 42, 43, 44, 52, 54, 64] {
+    for length in [0, 1, 40, 41, 42, 43, 44, 52, 53, 54, 56, 64] {
         let whole = as_older_forms(&opened()).into_iter().chain([opened().to_vec()]).collect::<Vec<_>>();
         for (old, number) in whole.iter().map(|old| (&old[..], 13)).chain([(&damaged[..], 14)]) {
             let mut bytes = vec![0xEE; length];
@@ -245,11 +233,11 @@ fn converting_refuses_14_before_13_and_changes_no_byte() {
 
 #[test]
 fn a_handset_updated_mid_drive_goes_on() {
-    // What was discharged before the update is in no older form.
+    // What was discharged before the update is in no form before form 4.
     let mut uncounted = line_three();
-    uncounted[43..].fill(0);
+    uncounted[45..].fill(0);
     for old in as_older_forms(&line_three()) {
-        let mut kept = Trace::load(&uncounted).unwrap();
+        let mut kept = Trace::load(&if old[0] < 4 { uncounted } else { line_three() }).unwrap();
         let mut updated = Trace::load(&old).unwrap();
         assert_eq!(converted(&old), Ok(*updated.saved()));
         for (current, voltage) in [(-12, 3600), (-20, 3500), (-300, 3001), (-21, 3000)] {

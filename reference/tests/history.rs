@@ -1,55 +1,13 @@
 //! The history of demand 3: the fixing points it finds, and that the gauge agrees with it.
 
 mod common;
+use common::held::Held;
 use common::*;
-use reference::fixing::FixingPoint::{self, *};
+use reference::fixing::FixingPoint::*;
 use reference::fixing::FixingPoints;
 use reference::history::{Call, History};
 use reference::trace::Trace;
-use reference::{bench::BENCH_PACK, calls, saved};
-
-/// A trace that asserts after every call what demand 3 says of the gauge and the history.
-struct Held(Trace);
-
-impl Held {
-    fn open(configuration: &[u8]) -> Held {
-        Held(Trace::open(configuration).unwrap())
-    }
-
-    fn agree(&self) {
-        let gauge = saved::load(self.0.saved()).unwrap();
-        let history = self.0.history();
-        assert_eq!((gauge.h, gauge.lmd, gauge.dcr), (history.h(), history.l, history.r()));
-        assert_eq!((gauge.vdq(), gauge.ar), (history.run.is_some(), history.ar));
-        assert_eq!(gauge.rest_count, history.rest_count);
-        assert_eq!((gauge.cyct, gauge.cycle_drain), (history.cycles, history.cycle_drain));
-        assert_eq!(gauge.mode & 0x3B, history.mode & 0x3B);
-    }
-
-    fn window(&mut self, current: i32, voltage: i32, temperature: i32) -> Vec<FixingPoint> {
-        let points = self.0.window(current, voltage, temperature).unwrap();
-        self.agree();
-        points.iter().collect()
-    }
-
-    fn rest(&mut self, windows: u32, temperature: i32) {
-        self.0.rest(windows, temperature).unwrap();
-        self.agree();
-    }
-
-    fn write(&mut self, address: u32, value: u8) -> Vec<FixingPoint> {
-        let points = self.0.write(address, value).unwrap();
-        self.agree();
-        points.iter().collect()
-    }
-
-    fn command(&mut self, ar: u16, mode: u8, key: u8) -> Vec<FixingPoint> {
-        self.write(0x02, ar as u8);
-        self.write(0x03, (ar >> 8) as u8);
-        self.write(0x01, mode);
-        self.write(0x00, key)
-    }
-}
+use reference::{bench::BENCH_PACK, calls};
 
 #[test]
 fn windows_make_their_fixing_points() {
@@ -152,22 +110,38 @@ fn the_history_foresees_the_number_of_an_estimate() {
 #[test]
 fn the_history_counts_rest_windows_by_the_calls_alone() {
     let mut held = Held::open(&BENCH_PACK);
-    for count in [16_875, 33_750, 50_625, 65_535, 65_535] {
-        held.rest(16_875, 1192);
-        assert_eq!(held.0.history().rest_count, count);
+    for (windows, count) in [(DAY, 16_875), (48_660, 65_535), (1, 65_536), (MONTH, 571_786)] {
+        held.rest(windows, 1192);
+        assert_eq!(held.0.history().rest_count(), count);
     }
     for (mode, key) in [(0x20, 0xA9), (0x10, 0xA9), (0x01, 0x56)] {
         held.command(9, mode, key);
-        assert_eq!(held.0.history().rest_count, 65_535);
+        assert_eq!(held.0.history().rest_count(), 571_786);
     }
     for (mode, rests) in [(0x08, 3), (0x02, 4)] {
         held.command(9, mode, 0xA9);
-        assert_eq!(held.0.history().rest_count, 0);
+        assert_eq!(held.0.history().rest_count(), 0);
         held.rest(rests, 1192);
-        assert_eq!(held.0.history().rest_count, rests as i32);
+        assert_eq!(held.0.history().rest_count(), rests);
     }
     held.window(3, 3700, 1192);
-    assert_eq!(held.0.history().rest_count, 0);
+    assert_eq!(held.0.history().rest_count(), 0);
+}
+
+#[test]
+fn the_history_counts_without_a_stop() {
+    // Paper 02, A6. It stops where the count is asked for, and the gauge agrees.
+    let near = with(|gauge| gauge.rest_count = 4_294_967_294);
+    let mut held = Held::load(&near);
+    for (windows, count, so_far) in
+        [(1, 4_294_967_295, 4_294_967_295), (1, 4_294_967_295, 4_294_967_296), (MONTH, 4_294_967_295, 4_295_473_546)]
+    {
+        held.rest(windows, 1192);
+        assert_eq!((held.0.history().rest_count(), held.0.history().rest_windows), (count, so_far));
+    }
+    held.command(9, 0x08, 0xA9);
+    held.rest(5, 1192);
+    assert_eq!((held.0.history().rest_count(), held.0.history().rest_windows), (5, 5));
 }
 
 #[test]
@@ -234,8 +208,8 @@ fn a_run_ends_above_the_greatest_drain() {
 fn rests_leak_window_by_window() {
     let mut held = Held::open(&BENCH_PACK);
     held.window(20, 4150, 1192);
-    held.rest(16_875, 1372);
-    assert!(held.0.history().h() < 1024 * G - 16_875 * 1000 * 128);
+    held.rest(DAY, 1372);
+    assert!(held.0.history().h() < 1024 * G - i64::from(DAY) * 1000 * 128);
     assert_eq!(held.0.history().h() + held.0.history().r(), 1024 * G);
 }
 
@@ -249,10 +223,10 @@ fn a_history_begins_at_a_loaded_gauge() {
     held.window(-3000, 3600, 1192);
     held.write(0x02, 9);
     held.rest(5, 1192);
-    let mut loaded = Held(Trace::load(held.0.saved()).unwrap());
+    let mut loaded = Held::load(held.0.saved());
     let begun = *loaded.0.history();
     assert_eq!((begun.p, begun.q, begun.k), (held.0.history().h(), 0, 0));
-    assert_eq!((begun.l, begun.run, begun.ar, begun.rest_count), (1024, held.0.history().run, 9, 5));
+    assert_eq!((begun.l, begun.run, begun.ar, begun.rest_count()), (1024, held.0.history().run, 9, 5));
     assert_eq!((begun.cycles, begun.cycle_drain), (0, 3000 * 192_000));
 
     // The run that was under way goes on and teaches the same capacity.
@@ -260,5 +234,5 @@ fn a_history_begins_at_a_loaded_gauge() {
         assert_eq!(both.window(-21, 3000, 1192), [QualifiedRun]);
     }
     assert_eq!(held.0.saved(), loaded.0.saved());
-    assert_eq!(Trace::load(&[0; 53]).err(), Some(14));
+    assert_eq!(Trace::load(&[0; 55]).err(), Some(14));
 }

@@ -26,10 +26,13 @@ fn numbers_1_and_2_then_13_of_opening() {
     refuses(opened(), 1, |saved| open(&BENCH_PACK[..9], saved));
     refuses(opened(), 1, |saved| open(&[1; 11], saved));
     refuses(opened(), 2, |saved| open(&empty, saved));
-    refuses(opened(), 1, |saved| open(&empty[..9], &mut saved[..52]));
-    refuses(opened(), 2, |saved| open(&empty, &mut saved[..52]));
-    refuses(opened(), 13, |saved| open(&BENCH_PACK, &mut saved[..52]));
-    assert_eq!(open(&BENCH_PACK, &mut [0; 54]), 13);
+    refuses(opened(), 1, |saved| open(&empty[..9], &mut saved[..54]));
+    refuses(opened(), 2, |saved| open(&empty, &mut saved[..54]));
+    refuses(opened(), 13, |saved| open(&BENCH_PACK, &mut saved[..54]));
+    // 53 was the length before A6 (paper 02).
+    for length in [0, 41, 43, 53, 54, 56] {
+        assert_eq!(open(&BENCH_PACK, &mut vec![0; length]), 13);
+    }
 }
 
 #[test]
@@ -50,11 +53,24 @@ fn numbers_3_4_5_of_a_window() {
 fn number_6_before_5_of_a_rest() {
     refuses(opened(), 6, |saved| rest(saved, 0, 1192));
     refuses(opened(), 6, |saved| rest(saved, 0, 1_373));
-    refuses(opened(), 6, |saved| rest(saved, 16_876, 1_011));
+    refuses(opened(), 6, |saved| rest(saved, MONTH + 1, 1_011));
     refuses(opened(), 6, |saved| rest(saved, u32::MAX, 1192));
-    refuses(opened(), 5, |saved| rest(saved, 16_875, 1_011));
-    assert_eq!(rest(&mut opened(), 16_875, 1_012), 0);
+    refuses(opened(), 5, |saved| rest(saved, MONTH, 1_011));
+    assert_eq!(rest(&mut opened(), MONTH, 1_012), 0);
     assert_eq!(rest(&mut opened(), 1, 1_372), 0);
+}
+
+#[test]
+fn a_rest_may_last_thirty_days() {
+    // Paper 02, A6. A day of 86,400 s has 16,875 windows of 5.12 s.
+    assert_eq!((u64::from(DAY) * 512, MONTH), (86_400 * 100, 30 * DAY));
+    for windows in [DAY, DAY + 1, 65_535, 65_536, 65_537, MONTH - 1, MONTH] {
+        assert_eq!(rest(&mut opened(), windows, 1192), 0, "{windows}");
+    }
+    // Among those refused, some whose low 16, 19 or 20 bits alone would be accepted.
+    for windows in [MONTH + 1, MONTH + 2, (1 << 19) + 1, (1 << 20) + DAY, (1 << 24) + 422, (1 << 31) + 1, u32::MAX] {
+        refuses(opened(), 6, |saved| rest(saved, windows, 1192));
+    }
 }
 
 #[test]
@@ -102,7 +118,7 @@ fn number_14_comes_first() {
     refuses(damaged, 14, |saved| write(saved, 0x04, 0));
     refuses(damaged, 14, |saved| read(saved, 0, 0, &mut [], 0));
     refuses(damaged, 14, |saved| estimate(saved, 0, &mut 0, &mut 0));
-    refuses(opened(), 14, |saved| window(&mut saved[..52], 0, 3700, 1192));
+    refuses(opened(), 14, |saved| window(&mut saved[..54], 0, 3700, 1192));
 }
 
 #[test]

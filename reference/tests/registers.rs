@@ -52,7 +52,7 @@ fn cyct_stands_at_0x2a() {
 #[test]
 fn every_part_is_a_part_of_the_whole() {
     let mut bytes = line_three();
-    bytes[43..45].copy_from_slice(&[0xCD, 0xAB]);
+    bytes[45..47].copy_from_slice(&[0xCD, 0xAB]);
     let shown = registers::all(&gauge(&bytes));
     for address in 0..128usize {
         for count in 1..=128 - address {

@@ -1,10 +1,14 @@
-//! The count of rest windows (paper 02, A4): what counts, what clears it, what leaves it, and where it stops.
+//! The count of rest windows (paper 02, A4 and A6): what counts, what clears it, what leaves it, and where it stops.
 
 mod common;
 use common::*;
 use reference::calls;
 
-fn count(bytes: &[u8]) -> i32 {
+/// Where it stops, and where it stopped before A6.
+const STOP: u32 = 4_294_967_295;
+const FORMER_STOP: u32 = 65_535;
+
+fn count(bytes: &[u8]) -> u32 {
     gauge(bytes).rest_count
 }
 
@@ -20,7 +24,7 @@ fn is_rested(bytes: &[u8]) -> bool {
 }
 
 /// The opened bench pack with a count, full, so that a command or a window has something to move.
-fn counted(rest_count: i32) -> Saved {
+fn counted(rest_count: u32) -> Saved {
     with(|gauge| {
         gauge.fill();
         gauge.rest_count = rest_count;
@@ -49,20 +53,41 @@ fn every_rest_window_counts() {
     }
     bytes = after_rest(bytes, 1, 1012);
     assert_eq!((count(&bytes), is_rested(&bytes)), (422, true));
-    assert_eq!(count(&after_rest(bytes, 16_875, 1372)), 17_297);
+    assert_eq!(count(&after_rest(bytes, DAY, 1372)), 17_297);
+    assert_eq!(count(&after_rest(bytes, MONTH, 1372)), 506_672);
 }
 
 #[test]
-fn it_stops_at_65535() {
+fn it_counts_on_past_65535() {
     for (before, windows, then) in [
-        (65_533, 1, 65_534),
         (65_534, 1, 65_535),
-        (65_534, 2, 65_535),
-        (65_535, 1, 65_535),
-        (65_535, 16_875, 65_535),
-        (48_660, 16_875, 65_535),
-        (48_659, 16_875, 65_534),
-        (48_661, 16_875, 65_535),
+        (65_534, 2, 65_536),
+        (65_535, 1, 65_536),
+        (65_535, 422, 65_957),
+        (48_661, DAY, 65_536),
+        (65_535, MONTH, 571_785),
+        (0, MONTH, MONTH),
+    ] {
+        let bytes = after_rest(counted(before), windows, 1192);
+        assert_eq!(count(&bytes), then, "{before} and {windows}");
+        assert!(is_rested(&bytes));
+    }
+}
+
+#[test]
+fn it_stops_at_4294967295() {
+    for (before, windows, then) in [
+        (STOP - 2, 1, STOP - 1),
+        (STOP - 1, 1, STOP),
+        (STOP - 1, 2, STOP),
+        (STOP, 1, STOP),
+        (STOP, MONTH, STOP),
+        (STOP - MONTH - 1, MONTH, STOP - 1),
+        (STOP - MONTH, MONTH, STOP),
+        // One more is 2^32, which four bytes would make 0, and 423 more 422.
+        (STOP - MONTH + 1, MONTH, STOP),
+        (STOP - MONTH + 423, MONTH, STOP),
+        (STOP - MONTH / 2, MONTH, STOP),
     ] {
         let bytes = after_rest(counted(before), windows, 1192);
         assert_eq!(count(&bytes), then, "{before} and {windows}");
@@ -77,14 +102,16 @@ fn a_window_with_current_clears_it() {
         assert_eq!(count(&after(counted(422), current, 3700, 1192)), 0);
     }
     // Whatever else the window is: full, an empty stop, EDVF.
-    assert_eq!(count(&after(counted(65_535), 20, 4150, 1192)), 0);
-    assert_eq!(count(&after(counted(65_535), -20, 2800, 1192)), 0);
+    for before in [FORMER_STOP, FORMER_STOP + 1, STOP] {
+        assert_eq!(count(&after(counted(before), 20, 4150, 1192)), 0);
+        assert_eq!(count(&after(counted(before), -20, 2800, 1192)), 0);
+    }
 }
 
 #[test]
 fn a_window_without_counted_current_neither_counts_nor_clears() {
     for current in [0, 2, -2] {
-        for before in [0, 1, 421, 422, 65_535] {
+        for before in [0, 1, 421, 422, FORMER_STOP, FORMER_STOP + 1, STOP] {
             assert_eq!(count(&after(counted(before), current, 3700, 1192)), before);
         }
         let bytes = after(after_rest(opened(), 421, 1192), current, 3700, 1192);
@@ -109,14 +136,16 @@ fn the_dmf_decides_whether_a_current_clears_it() {
 #[test]
 fn both_resets_clear_it() {
     for reset in [0x08, 0x02] {
-        assert_eq!(count(&after_key(counted(65_535), reset, 0xA9)), 0);
+        for before in [422, FORMER_STOP, FORMER_STOP + 1, STOP] {
+            assert_eq!(count(&after_key(counted(before), reset, 0xA9)), 0);
+        }
     }
 }
 
 #[test]
 fn the_settings_leave_it() {
     for (mode, key) in [(0x20, 0xA9), (0x10, 0xA9), (0x01, 0x56)] {
-        for before in [0, 421, 422, 65_535] {
+        for before in [0, 421, 422, FORMER_STOP, FORMER_STOP + 1, STOP] {
             assert_eq!(count(&after_key(counted(before), mode, key)), before);
         }
     }
@@ -124,19 +153,22 @@ fn the_settings_leave_it() {
 
 #[test]
 fn a_refused_call_leaves_it() {
-    let bytes = counted(422);
-    let mut copy = bytes;
-    assert_eq!(calls::window(&mut copy, 28_012, 3700, 1192), 3);
-    assert_eq!(calls::window(&mut copy, 100, 2_599, 1192), 4);
-    assert_eq!(calls::rest(&mut copy, 0, 1192), 6);
-    assert_eq!(calls::rest(&mut copy, 1, 1_373), 5);
-    assert_eq!(calls::write(&mut copy, 0x00, 0xA9), 9);
-    assert_eq!(copy, bytes);
+    for before in [422, FORMER_STOP + 1, STOP] {
+        let bytes = counted(before);
+        let mut copy = bytes;
+        assert_eq!(calls::window(&mut copy, 28_012, 3700, 1192), 3);
+        assert_eq!(calls::window(&mut copy, 100, 2_599, 1192), 4);
+        assert_eq!(calls::rest(&mut copy, 0, 1192), 6);
+        assert_eq!(calls::rest(&mut copy, MONTH + 1, 1192), 6);
+        assert_eq!(calls::rest(&mut copy, 1, 1_373), 5);
+        assert_eq!(calls::write(&mut copy, 0x00, 0xA9), 9);
+        assert_eq!(copy, bytes);
+    }
 }
 
 #[test]
 fn a_rest_of_n_counts_as_n_rests_of_one() {
-    for before in [0, 420, 421, 65_530, 65_535] {
+    for before in [0, 420, 421, FORMER_STOP - 5, FORMER_STOP, STOP - 5, STOP] {
         let one_by_one = (0..9).fold(counted(before), |bytes, _| after_rest(bytes, 1, 1192));
         assert_eq!(after_rest(counted(before), 9, 1192), one_by_one);
     }
@@ -145,7 +177,7 @@ fn a_rest_of_n_counts_as_n_rests_of_one() {
 #[test]
 fn no_register_shows_it() {
     let mut shown = [[0; 128]; 2];
-    for (registers, rest_count) in shown.iter_mut().zip([0, 65_535]) {
+    for (registers, rest_count) in shown.iter_mut().zip([0, STOP]) {
         assert_eq!(calls::read(&counted(rest_count), 0, 128, registers, 0), 0);
     }
     assert_eq!(shown[0], shown[1]);

@@ -23,7 +23,7 @@ fn every_field_stands_in_its_place() {
             ar: 0xBEEF,
             mode: 0x5A,
             flags: VDQ,
-            rest_count: 0xA987,
+            rest_count: 0xC3D2_A987,
             cyct: 0xFEDB,
             cycle_drain: 0x7_6543_210F,
             ..*gauge
@@ -31,13 +31,13 @@ fn every_field_stands_in_its_place() {
     });
     #[rustfmt::skip]
     let expected = [
-        4, 0x04, 0x5E, 0x77, 0x05, 0x21, 0x10, 0x00, 0x00, 0x6C, 0x15,
+        5, 0x04, 0x5E, 0x77, 0x05, 0x21, 0x10, 0x00, 0x00, 0x6C, 0x15,
         0x9A, 0x78, 0x56, 0x34, 0x12, 0, 0, 0, 0x65, 0x87, 0x09, 0x21, 0x03, 0, 0, 0,
-        0xDC, 0xFE, 0x23, 0x01, 0xCC, 0xED, 0xBC, 0x0A, 0xD2, 0x04, 0xEF, 0xBE, 0x5A, 0x04, 0x87, 0xA9,
+        0xDC, 0xFE, 0x23, 0x01, 0xCC, 0xED, 0xBC, 0x0A, 0xD2, 0x04, 0xEF, 0xBE, 0x5A, 0x04, 0x87, 0xA9, 0xD2, 0xC3,
         0xDB, 0xFE, 0x0F, 0x21, 0x43, 0x65, 0x07, 0, 0, 0,
     ];
     assert_eq!(bytes, expected);
-    let mut again = [0xEE; 53];
+    let mut again = [0xEE; 55];
     store(&gauge(&bytes), &mut again);
     assert_eq!(again, bytes);
 }
@@ -45,8 +45,8 @@ fn every_field_stands_in_its_place() {
 #[test]
 fn length_form_and_ilmd() {
     let bytes = opened();
-    assert!((0..=64).all(|length| load(&[bytes.as_slice(), &[0; 13]].concat()[..length]).is_ok() == (length == 53)));
-    for form in [0, 1, 2, 3, 5, 255] {
+    assert!((0..=64).all(|length| load(&[bytes.as_slice(), &[0; 13]].concat()[..length]).is_ok() == (length == 55)));
+    for form in [0, 1, 2, 3, 4, 6, 255] {
         let mut other = bytes;
         other[0] = form;
         assert_eq!(load(&other), Err(14));
@@ -121,7 +121,8 @@ fn flag_bits_without_a_name_are_0() {
 
 #[test]
 fn every_count_of_rest_windows_is_accepted() {
-    for rest_count in 0..=65_535 {
+    let beside_each_bit = (0..32).flat_map(|bit| [(1 << bit) - 1, 1 << bit, (1 << bit) + 1]);
+    for rest_count in (0..=65_535).chain(beside_each_bit).chain([4_294_967_294, 4_294_967_295]) {
         assert_eq!(gauge(&with(|gauge| gauge.rest_count = rest_count)).rest_count, rest_count);
     }
 }

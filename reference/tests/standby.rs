@@ -12,7 +12,7 @@ const STTE: u32 = 0x1C;
 fn opened_with(islc: u8) -> Saved {
     let mut pack = BENCH_PACK;
     pack[3] = islc;
-    let mut bytes = [0; 53];
+    let mut bytes = [0; 55];
     assert_eq!(calls::open(&pack, &mut bytes), 0);
     bytes
 }

@@ -27,7 +27,7 @@ expect "CYCT: the greatest LMD" "1646" "$(registers | awk 'NR > 2 && $18 != befo
 for window in '0 3700 1192' '-2 3700 1192' '2 3700 1192' '9 3700 1192'; do
     expect "CYCT: a smaller LMD, then $window" "0 0 3 3 12 12" "$(cycles_of '-28011 3600 1192' 'lmd 10' "$window" 'lmd 1' "$window" 'rest 1 1192')"
 done
-expect "CYCT: a rest counts nothing" "0 0 0 0 39" "$(cycles_of '-28011 3600 1192' 'lmd 1' 'rest 1 1192' 'rest 16875 1192' '0 3700 1192')"
+expect "CYCT: a rest counts nothing" "0 0 0 0 39" "$(cycles_of '-28011 3600 1192' 'lmd 1' 'rest 1 1192' 'rest 506250 1192' '0 3700 1192')"
 
 # The window that teaches goes by the LMD before it: 24 windows are 956.1 counts, less than 1024; LMD becomes 1024 - 128 = 896, and the next window has a cycle.
 cycles_of 'repeat 23' '-28011 3600 1192' 'end' 'done' '-28011 3000 1192' '0 3700 1192' >/dev/null
@@ -45,8 +45,8 @@ expect "the drain: of a window" "$(number_bytes $((3000 * 192000)) 8)" "$(drain_
 expect "the drain: the least current" "$(number_bytes $((3 * 192000)) 8)" "$(drain_of '-3 3600 1192')"
 expect "the drain: what is over a cycle" "$(number_bytes $((26 * 28011 * 192000 - 1024 * 135000000)) 8)" "$(drain_of 'repeat 26' '-28011 3600 1192' 'end')"
 # What is not counted, a charge, a rest with its leak, settings, looks and refused calls add nothing.
-for line in '-2 3600 1192' '28011 3700 1192' 'rest 16875 1372' 'nac 5' 'done' 'lmd 900' 'write 1 0x3B' 'write 2 7' 'read 0 128' 'preview reset' 'preview lmd 1' \
-    'estimate 3700' '-28012 3600 1192' '-3000 2599 1192' '-3000 3600 1373' 'rest 0 1192' 'lmd 0' 'load 04' 'open 04'; do
+for line in '-2 3600 1192' '28011 3700 1192' 'rest 506250 1372' 'nac 5' 'done' 'lmd 900' 'write 1 0x3B' 'write 2 7' 'read 0 128' 'preview reset' 'preview lmd 1' \
+    'estimate 3700' '-28012 3600 1192' '-3000 2599 1192' '-3000 3600 1373' 'rest 0 1192' 'lmd 0' 'load 05' 'open 04'; do
     expect "the drain: after $line" "$(number_bytes $((3000 * 192000)) 8)" "$(drain_of 'done' '-3000 3600 1192' "$line")"
 done
 
@@ -84,12 +84,12 @@ expect "CYCT: its pair" "# 0x2A: 77 00
 
 # The aged compensation. gauge_aged ID3 PKCFG DCOMP TCOMP CYCT: a load line, the bench pack with these bytes, full after so many cycles, without a run.
 gauge_aged() {
-    printf 'load 04 04 5E 77 05 21 10 %s %s %s %s' "$2" "$1" "$3" "$4"
+    printf 'load 05 04 5E 77 05 21 10 %s %s %s %s' "$2" "$1" "$3" "$4"
     number_bytes $((1024 * 135000000)) 8
     number_bytes 0 8
     for pair in 1024 160 0 0 0 0; do number_bytes "$pair" 2; done
     printf ' 44 10'
-    number_bytes 0 2
+    number_bytes 0 4
     number_bytes "$5" 2
     number_bytes 0 8
     echo

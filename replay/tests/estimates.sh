@@ -83,7 +83,7 @@ for line in 'nac 500' 'lmd 900' 'done' 'write 1 0x0A' 'write 2 5' 'read 0 128' '
     after 15 'rest 421 1192' "$line"
 done
 # A refused call neither counts nor clears.
-for line in '28012 3700 1192' '-100 2599 1192' '-100 3700 1373' 'rest 0 1192' 'rest 16876 1192' 'rest 1 1011' 'lmd 0' 'write 0 0x57' 'open 04' 'load 03'; do
+for line in '28012 3700 1192' '-100 2599 1192' '-100 3700 1373' 'rest 0 1192' 'rest 506251 1192' 'rest 1 1011' 'lmd 0' 'write 0 0x57' 'open 04' 'load 03'; do
     after 0 'rest 422 1192' "$line"
     after 15 'rest 421 1192' "$line"
 done
@@ -93,23 +93,32 @@ list order.txt 'open bench\nestimate 2999\nestimate 4201\nrest 422 1192\nestimat
 run order.txt
 expect "numbers of estimates" "15 15 16 0 0 16 16 16" "$(rows | awk '$9 == "estimate" { printf "%s%s", (n++ ? " " : ""), $2 }')"
 
-# count_bytes LINE ..: the count in the saved bytes after these lines: those at 41 and 42.
-count_bytes() {
-    { printf 'open bench\n'; printf '%s\n' "$@"; } >count.txt
+# counted TITLE COUNT LINE ..: the count in the saved bytes after these lines: the four at 41.
+counted() {
+    { printf 'open bench\n'; printf '%s\n' "${@:3}"; } >count.txt
     run --save count.saved count.txt
-    awk '{ print " " $43 " " $44 }' count.saved
+    expect "the count saved: $1" "$(number_bytes "$2" 4)" "$(awk '{ print " " $43 " " $44 " " $45 " " $46 }' count.saved)"
 }
 
-# It stops at 65535, which four days would pass: 3 * 16875 + 14909 = 65534.
-days=('rest 16875 1192' 'rest 16875 1192' 'rest 16875 1192')
-expect "the count saved: none" "$(number_bytes 0 2)" "$(count_bytes 'nac 500')"
-expect "the count saved: a day" "$(number_bytes 16875 2)" "$(count_bytes 'rest 16875 1192')"
-expect "the count saved: before its end" "$(number_bytes 65534 2)" "$(count_bytes "${days[@]}" 'rest 14909 1192')"
-expect "the count saved: at its end" "$(number_bytes 65535 2)" "$(count_bytes "${days[@]}" 'rest 14910 1192')"
-expect "the count saved: past its end" "$(number_bytes 65535 2)" "$(count_bytes "${days[@]}" 'rest 14911 1192')"
-expect "the count saved: four days" "$(number_bytes 65535 2)" "$(count_bytes "${days[@]}" 'rest 16875 1192')"
-expect "the count saved: cleared" "$(number_bytes 0 2)" "$(count_bytes "${days[@]}" '-3 3700 1192')"
-after 0 "${days[@]}" 'rest 16875 1192' 'rest 1 1192'
+# Up to 65535 two bytes would do, and it stopped there before form 5: four days are 67500 windows.
+counted "none" 0 'nac 500'
+counted "a day" 16875 'rest 16875 1192'
+counted "before two bytes are full" 65534 'rest 65534 1192'
+counted "two bytes" 65535 'rest 65534 1192' 'rest 1 1192'
+counted "past two bytes" 65536 'rest 65535 1192' 'rest 1 1192'
+counted "four days" 67500 'repeat 4' 'rest 16875 1192' 'end'
+counted "a month" 506250 'rest 506250 1192'
+counted "two months, by days" 1012500 'repeat 60' 'rest 16875 1192' 'end'
+counted "past three bytes" 17212500 'repeat 34' 'rest 506250 1192' 'end'
+counted "cleared" 0 'rest 506250 1192' '-3 3700 1192'
+# It stops at 4294967295, which 8484 months would pass: 8483 * 506250 + 448544 = 4294967294.
+months=('repeat 8483' 'rest 506250 1192' 'end')
+counted "before its end" 4294967294 "${months[@]}" 'rest 448544 1192'
+counted "at its end" 4294967295 "${months[@]}" 'rest 448545 1192'
+counted "past its end" 4294967295 "${months[@]}" 'rest 448546 1192'
+counted "8484 months" 4294967295 "${months[@]}" 'rest 506250 1192'
+counted "cleared at its end" 0 "${months[@]}" 'rest 506250 1192' 'partial'
+after 0 "${months[@]}" 'rest 506250 1192' 'rest 1 1192'
 
 # It goes on another day.
 list rested.txt 'open bench\nrest 400 1192\n'
@@ -137,3 +146,15 @@ expect "rack.txt: estimates" "392 -507
 shown_in_readme "the table of rack.txt"
 cp "$root/replay/examples/rack.txt" printed
 shown_in_readme "rack.txt"
+
+# It shows the months on the shelf too. A month takes 506250 * W / 135000000 of the charge: 1.5 % at 12 degrees, W being 4; 0.75 % at 6, 2, 0 and 7; 0.375 % at -3. Of
+# 780 counts 768.4, 762.7, 757.0, 754.1, 748.5 and 742.9 are left, and somewhat less as whole counts. 3747 mV is the entry of 3744, 350 + floor(210 * 44 / 100) = 442
+# permille: floor(442 * 1024 / 1000) = 452 counts.
+status=0
+(cd "$root" && "$replay" replay/examples/shelf.txt) >printed || status=$?
+expect "README.md: shelf.txt is run" "0 16" "$status $(wc -l <printed)"
+expect "shelf.txt: NAC after each rest" "0:768 0:762 0:756 0:754 0:748 0:742 6:742" "$(rows | awk '$9 == "rest" { printf "%s%s:%s", (n++ ? " " : ""), $2, $3 }')"
+expect "shelf.txt: estimate" "452 -290" "$(given)"
+shown_in_readme "the table of shelf.txt"
+cp "$root/replay/examples/shelf.txt" printed
+shown_in_readme "shelf.txt"

@@ -111,11 +111,17 @@ list refused.txt 'repeat 3\nopen 04\nread 0 1\nend\nopen bench\nrepeat 2\ndone\n
 run refused.txt
 expect "refused in rounds: without a gauge" "1 - 1 - 1 - 11 1024 11 1024" "$(rows | awk '$9 == "round" { printf "%s%s %s", (n++ ? " " : ""), $2, $3 }')"
 
-# The time of all rounds: 10,000 days and a window each.
-list days.txt 'open bench\nrepeat 10000\nrest 16875 1180\n0 3700 1192\nend\n'
-run days.txt
-expect "10000 rounds: in line" "240014:13:20.00 240014:13:20.00" "$(rows | tail -n 1 | cut -c 1-15) $(rows | tail -n 1 | awk '{ print $1 }')"
+# The time of all rounds: 10,000 months and a window each.
+list months.txt 'open bench\nrepeat 10000\nrest 506250 1180\n0 3700 1192\nend\n'
+run months.txt
+expect "10000 rounds: in line" "7200014:13:20.00 7200014:13:20.00" "$(rows | tail -n 1 | cut -c 1-16) $(rows | tail -n 1 | awk '{ print $1 }')"
 expect "10000 rounds: rows and calls" "10005 # 20001 calls, none refused" "$(rows | wc -l) $(tail -n 1 printed)"
+
+# The first column is as wide as the greatest time needs: 712 months in two repeats of 10,000 are 51,264,000,000,000 hours, in hundredths just more than 64 bits
+# hold. Only the heading is read, and the run ends with the pipe.
+{ printf 'open bench\nrepeat 10000\nrepeat 10000\n'; for _ in {1..712}; do echo 'rest 506250 1180'; done; printf 'end\nend\n'; } >widest.txt
+heading=$({ "$replay" widest.txt || :; } | head -n 1)
+expect "the widest time" "$(printf '%23s' time)" "${heading%% number*}"
 
 # Over two lists, and on another day.
 list first.txt 'open bench\nrepeat 2\nnac 9\nend\n'

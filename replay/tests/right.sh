@@ -74,20 +74,21 @@ list empty.txt '\n# nothing\n\t \n#'
 run empty.txt
 expect "a list without calls" "$empty_table 0" "$(cat printed) $status"
 
-# 16875 windows of 5.12 s are a day to the hundredth. An empty gauge has no charge to leak, so its registers stay as opened.
-list days.txt 'open bench\n0 3700 1192\nrest 16876 1180\nrest 16874 1180\nrest 16875 1180\nrest 16875 1180\nrest 16875 1180\nrest 16875 1180\n'
-run days.txt
-expect "time of rests, in line" "        time number   NAC   LMD RSOC        FLAGS   CAC   TTE call
-  0:00:00.00      0     0  1024    0           CI     0 65535 $bench_open
-  0:00:05.12      0     0  1024    0           CI     0 65535 window 0 3700 1192
-  0:00:05.12      6     0  1024    0           CI     0 65535 rest 16876 1180
- 24:00:00.00      0     0  1024    0           CI     0 65535 rest 16874 1180
- 48:00:00.00      0     0  1024    0           CI     0 65535 rest 16875 1180
- 72:00:00.00      0     0  1024    0           CI     0 65535 rest 16875 1180
- 96:00:00.00      0     0  1024    0           CI     0 65535 rest 16875 1180
-120:00:00.00      0     0  1024    0           CI     0 65535 rest 16875 1180
-# 8 calls, 1 refused
-# refused with 6 (rest length out of range): 1, first days.txt:3" "$(cat printed)"
+# 16875 windows of 5.12 s are a day to the hundredth, and 506250, thirty days, the most that a rest takes. An empty gauge has no charge to leak, so its
+# registers stay as opened.
+list months.txt 'open bench\n0 3700 1192\nrest 506251 1180\nrest 16874 1180\nrest 16876 1180\nrest 506249 1180\nrest 506250 1180\nrest 4294967295 1180\n'
+run months.txt
+expect "time of rests, in line" "         time number   NAC   LMD RSOC        FLAGS   CAC   TTE call
+   0:00:00.00      0     0  1024    0           CI     0 65535 $bench_open
+   0:00:05.12      0     0  1024    0           CI     0 65535 window 0 3700 1192
+   0:00:05.12      6     0  1024    0           CI     0 65535 rest 506251 1180
+  24:00:00.00      0     0  1024    0           CI     0 65535 rest 16874 1180
+  48:00:05.12      0     0  1024    0           CI     0 65535 rest 16876 1180
+ 768:00:00.00      0     0  1024    0           CI     0 65535 rest 506249 1180
+1488:00:00.00      0     0  1024    0           CI     0 65535 rest 506250 1180
+1488:00:00.00      6     0  1024    0           CI     0 65535 rest 4294967295 1180
+# 8 calls, 2 refused
+# refused with 6 (rest length out of range): 2, first months.txt:3" "$(cat printed)"
 
 awk 'BEGIN { print "c v t"; for (i = 0; i < 200000; i++) print "0 3700 1192" }' >long.txt
 run long.txt

@@ -2,9 +2,9 @@
 # --save, and going on from it.
 
 # The saved form of the requests: form, ten configuration bytes, h and DCR of 8 bytes, LMD, SI, c, VOLT, TEMP, AR of 2, MODE, FLAGS, the count of
-# rest windows of 2, CYCT of 2 and the cycle drain of 8. As opened, everything but form 4, LMD 1024, SI 16 * 10 = 160 sixteenths, MODE 0x44 and CI is 0.
-opened="load 04 04 5E 77 05 21 10 00 00 6C 15 00 00 00 00 00 00 00 00 00 00 00 00 00 00 00 00 00 04 A0 00 00 00 00 00 00 00 00 00 44 10 00 00\
-$(number_bytes 0 10)"
+# rest windows of 4, CYCT of 2 and the cycle drain of 8. As opened, everything but form 5, LMD 1024, SI 16 * 10 = 160 sixteenths, MODE 0x44 and CI is 0.
+opened="load 05 04 5E 77 05 21 10 00 00 6C 15 00 00 00 00 00 00 00 00 00 00 00 00 00 00 00 00 00 04 A0 00 00 00 00 00 00 00 00 00 44 10\
+$(number_bytes 0 14)"
 list opened.txt 'open bench\n'
 run --save opened.saved opened.txt
 expect "saved as opened" "$opened 0" "$(cat opened.saved) $status"
@@ -13,11 +13,11 @@ expect "saved as opened" "$opened 0" "$(cat opened.saved) $status"
 # 1024 * 135000000 - h. c is -3000 in two's complement. 3000 is no standby, so SI is as opened. The cycle drain is what was discharged, 3000 * 192000,
 # without the leak, which DCR has too.
 run --save windows.saved "$parts/bench-pack.txt"
-expect "saved after the request's windows" "load 04 04 5E 77 05 21 10 00 00 6C 15$(
+expect "saved after the request's windows" "load 05 04 5E 77 05 21 10 00 00 6C 15$(
     number_bytes 137663991808 8
     number_bytes $((1024 * 135000000 - 137663991808)) 8
     for pair in 1024 160 $((65536 - 3000)) 3600 1192 0; do number_bytes "$pair" 2; done
-) 40 14 00 00 00 00$(number_bytes $((3000 * 192000)) 8)" "$(cat windows.saved)"
+) 40 14 00 00 00 00 00 00$(number_bytes $((3000 * 192000)) 8)" "$(cat windows.saved)"
 
 # going_on TITLE FIRST SECOND: the first list with --save and then the saved bytes with the second end as both in one run.
 going_on() {

@@ -1,7 +1,7 @@
 -- Whatever moves the counters leaves them within their widths, and accepted. Assumes nothing.
 use mathlib.Core.Bool.{Bool, true, false, cond}
 use mathlib.Core.Path.{_≡_, refl}
-use Prim.Native.Nat.{ℕ, _<_}
+use Prim.Native.Nat.{ℕ, _^_, _<_}
 use native.Mathlib.Omega.{arith}
 use lib.Dec.{eqb}
 use Rattle.command.specs.declared.command.Command.{Command}
@@ -36,7 +36,7 @@ module _ (x : Counters) (f : CountersFit x) where
   moved-fits lmd c =
       record { rests = kept (eqb (c .magnitude) 0); cyct = moved-cyct lmd c (x .cycles); drain = moved-drain lmd c (x .cycles) }
     where
-      kept : (t : Bool) → cond t (x .rests) 0 < 65_536
+      kept : (t : Bool) → cond t (x .rests) 0 < 256 ^ 4
       kept true = f .rests
       kept false = omega arith
 

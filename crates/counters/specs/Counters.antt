@@ -1,5 +1,5 @@
 -- What the gauge counts beside its charge. A4 of paper 02: "The gauge therefore counts rest windows since the last window with c not 0 or since
--- opening or a reset, stopping at 65,535"; the cycles of A5. Definitions only; assumes nothing.
+-- opening or a reset"; its stop by A6; the cycles of A5. Definitions only; assumes nothing.
 use mathlib.Core.Bool.{Bool, cond}
 use Prim.Native.Nat.{ℕ, _+_, min}
 use lib.Dec.{eqb}
@@ -13,9 +13,9 @@ use Rattle.counters.specs.declared.counters.Counters.{Counters}
 unfoldable pub openedCounters : Counters
 openedCounters = record { rests = 0; cycles = noCycles }
 
--- "stopping at 65,535"
+-- A6: "becomes four bytes and stops at 4,294,967,295 instead of 65,535"
 abbrev pub mostRests : ℕ
-mostRests = 65_535
+mostRests = 4_294_967_295
 
 -- the windows of a rest are counted; it adds to no cycle
 unfoldable pub countersRested : ℕ → Counters → Counters
@@ -33,6 +33,6 @@ countersObeyed Prst x = record { rests = 0; cycles = x .cycles }
 countersObeyed Frst x = openedCounters
 countersObeyed Wrtlmd x = x
 
--- the count of rest windows is every number of its two bytes
+-- the count of rest windows is every number of its four bytes
 unfoldable pub countersAccepted : Counters → Bool
 countersAccepted x = cyclesAccepted (x .cycles)

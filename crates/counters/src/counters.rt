@@ -5,12 +5,12 @@ use crate::cycles::Cycles;
 use command::command::Command;
 use sample::current::Current;
 
-// "stopping at 65,535".
-const MOST_RESTS: u16 = 65_535;
+// "stops at 4,294,967,295".
+const MOST_RESTS: u32 = 4_294_967_295;
 
 pub struct Counters {
     // rest windows since the last window with c not 0, since opening or a reset
-    pub rests: u16,
+    pub rests: u32,
     // CYCT and its drain
     pub cycles: Cycles,
 }
@@ -30,7 +30,7 @@ impl Counters {
     {
         let all = self.rests as u64 + windows as u64;
         if all < MOST_RESTS as u64 {
-            self.rests = all as u16;
+            self.rests = all as u32;
             return self;
         }
         self.rests = MOST_RESTS;

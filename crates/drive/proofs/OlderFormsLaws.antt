@@ -12,7 +12,7 @@ use Rattle.numbers.proofs.LittleLaws.{one-is}
 use Rattle.refusals.specs.Refusal as Refusal
 use Rattle.registers.specs.Values.{si}
 use Rattle.standby.proofs.ShownLaws.{shown-whole}
-use Rattle.drive.specs.OlderForms.{Form1Reads, Form1Shows, Form2Reads, Form3Reads}
+use Rattle.drive.specs.OlderForms.{Form1Reads, Form1Shows, Form2Reads, Form3Reads, Form4Reads}
 
 -- the gauge of accepted bytes, by the form of their first byte
 read-in : (bytes : List ℕ) (n : ℕ) → numberAt 1 0 bytes ≡ n → (loadAnswer bytes) .number ≡ Refusal.none
@@ -32,6 +32,10 @@ form-2-reads bytes e z = read-in bytes 2 e z
 pub form-3-reads : Form3Reads
 unfolding loaded loadedCharge loadedSample loadedHost loadedCounters
 form-3-reads bytes e z = read-in bytes 3 e z
+
+pub form-4-reads : Form4Reads
+unfolding loaded loadedCharge loadedSample loadedHost loadedCounters
+form-4-reads bytes e z = read-in bytes 4 e z
 
 pub form-1-shows : Form1Shows
 form-1-shows bytes e n = ap (λ (g : Gauge). si g) (form-1-reads bytes e n) ∙ shown-whole (numberAt 2 29 bytes)

@@ -9,7 +9,7 @@ use lib.IntN.{ℤ}
 use lib.ListN.{replicate}
 use borrow.Author.Tests.{eqb-true}
 use Rattle.form.specs.Form.{newest}
-use Rattle.gauge.specs.Calls.{restInRange}
+use Rattle.sample.specs.Limits.{restInRange}
 use Rattle.gauge.specs.Fits.{Taken}
 use Rattle.gauge.specs.declared.state.Gauge.{Gauge}
 use Rattle.handset.specs.Calls.{callBytes, callNumber}

@@ -5,7 +5,7 @@ use mathlib.Core.Path.{_≡_}
 use Prim.Native.Nat.{ℕ, _<_}
 use lib.IntN.{ℤ}
 use lib.ListN.{getD}
-use Rattle.gauge.specs.Calls.{restInRange}
+use Rattle.sample.specs.Limits.{restInRange}
 use Rattle.history.specs.Rests.{OneByOne}
 use Rattle.drive.specs.Drive.{bytesAfter, calledBytes, calledNumber}
 

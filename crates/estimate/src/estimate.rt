@@ -13,7 +13,7 @@ use refusals::OUTSIDE_TABLE;
 use refusals::REJECTED;
 
 // "at least 422 rest windows".
-const LEAST_RESTS: u16 = 422;
+const LEAST_RESTS: u32 = 422;
 
 fn refusal(gauge: Gauge, voltage: i32) -> u32
     ensures { λ r. ⌜ r ≡ Spec.estimateRefusal gauge voltage ⌝ }

@@ -79,9 +79,11 @@ pub record EstimateRows : Type 0 where
   -- a refusal hands nothing out
   pub estimate-kept : estimateAt (pos 3_700) (restOf 421 benchFull) ≡ 9
   pub distance-kept : distanceAt (pos 4_201) (restOf 422 benchFull) ≡ negsuc 8
-  -- the count is kept by WRTNAC, cleared by PRST and FRST, and stops at 65,535
+  -- the count is kept by WRTNAC, cleared by PRST and FRST
   pub wrtnac-keeps : (commandOf 0x20 0xA9 (restOf 422 benchFull)) .counters .rests ≡ 422
   pub prst-clears : (commandOf 0x08 0xA9 (restOf 422 benchFull)) .counters .rests ≡ 0
   pub frst-clears : (commandOf 0x02 0xA9 (restOf 422 benchFull)) .counters .rests ≡ 0
-  pub stops : (countersRested 2 (record { rests = 65_534; cycles = noCycles })) .rests ≡ 65_535
-  pub stays : (countersRested 16_875 (record { rests = 65_535; cycles = noCycles })) .rests ≡ 65_535
+  -- it goes on past 65,535, where it stopped before A6, and stops at 4,294,967,295
+  pub goes-on : (countersRested 1 (record { rests = 65_535; cycles = noCycles })) .rests ≡ 65_536
+  pub stops : (countersRested 2 (record { rests = 4_294_967_294; cycles = noCycles })) .rests ≡ 4_294_967_295
+  pub stays : (countersRested 506_250 (record { rests = 4_294_967_295; cycles = noCycles })) .rests ≡ 4_294_967_295

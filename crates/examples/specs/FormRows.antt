@@ -1,4 +1,4 @@
--- The forms of the saved bytes at their limits, A1, A4 and A5 of paper 02: each row worked out by hand. Definitions only; assumes nothing.
+-- The forms of the saved bytes at their limits, A1, A4, A5 and A6 of paper 02: each row worked out by hand. Definitions only; assumes nothing.
 use mathlib.Core.List.{List, [], _∷_, _++_}
 use mathlib.Core.Path.{_≡_}
 use Prim.Native.Nat.{ℕ}
@@ -25,6 +25,10 @@ savedCounting form rests = savedAs form 5 160 ++ little 2 rests
 -- and with CYCT and its drain, form 4
 abbrev pub savedCycling : ℕ → ℕ → ℕ → ℕ → List ℕ
 savedCycling form rests cyct drain = savedCounting form rests ++ (little 2 cyct ++ little 8 drain)
+
+-- the count in four bytes, form 5
+abbrev pub savedWider : ℕ → ℕ → ℕ → ℕ → List ℕ
+savedWider form rests cyct drain = savedAs form 5 160 ++ (little 4 rests ++ (little 2 cyct ++ little 8 drain))
 
 pub record FormRows : Type 0 where
   pub length-41 : length (savedAs 1 5 10) ≡ 41
@@ -63,15 +67,25 @@ pub record FormRows : Type 0 where
   -- form 3 has no cycles and reads as 0 in both; with ten bytes more it is 14
   pub form-3-cycles : (loadAnswer (savedCounting 3 422)) .gauge .counters .cycles ≡ noCycles
   pub form-3-long : (loadAnswer (savedCycling 3 422 7 0)) .number ≡ 14
-  -- there is no form 0 and no form 5
+  -- form 4's count has two bytes, and a stored 65,535 is that number, whatever stands behind it
+  pub form-4-count : (loadAnswer (savedCycling 4 65_535 65_535 0)) .gauge .counters .rests ≡ 65_535
+  -- form 5 has 55 bytes, and every count of four bytes is accepted
+  pub length-55 : length (savedWider 5 422 7 0) ≡ 55
+  pub form-5-most : (loadAnswer (savedWider 5 4_294_967_295 7 9)) .gauge .counters ≡ record { rests = 4_294_967_295; cycles = record { cyct = 7; drain = 9 } }
+  pub form-5-taken : (loadAnswer (savedWider 5 4_294_967_295 7 9)) .number ≡ 0
+  pub form-5-short : (loadAnswer (savedCycling 5 422 7 0)) .number ≡ 14
+  pub form-4-long : (loadAnswer (savedWider 4 422 7 0)) .number ≡ 14
+  -- there is no form 0 and no form 6
   pub form-0 : (loadAnswer (savedAs 0 5 10)) .number ≡ 14
-  pub form-5 : (loadAnswer (savedCycling 5 422 7 0)) .number ≡ 14
+  pub form-6 : (loadAnswer (savedWider 6 422 7 0)) .number ≡ 14
   -- the newest form alone is taken by the calls from C
-  pub taken-4 : (answerIn newest (savedCycling 4 422 7 0)) .number ≡ 0
+  pub taken-5 : (answerIn newest (savedWider 5 422 7 0)) .number ≡ 0
+  pub taken-4 : (answerIn newest (savedCycling 4 422 7 0)) .number ≡ 14
   pub taken-3 : (answerIn newest (savedCounting 3 422)) .number ≡ 14
   pub taken-2 : (answerIn newest (savedAs 2 5 160)) .number ≡ 14
   pub taken-1 : (answerIn newest (savedAs 1 5 10)) .number ≡ 14
-  -- what older forms are read as is saved as form 4
-  pub saved-1 : savedBytes ((loadAnswer (savedAs 1 5 10)) .gauge) ≡ savedCycling 4 0 0 0
-  pub saved-2 : savedBytes ((loadAnswer (savedAs 2 5 160)) .gauge) ≡ savedCycling 4 0 0 0
-  pub saved-3 : savedBytes ((loadAnswer (savedCounting 3 422)) .gauge) ≡ savedCycling 4 422 0 0
+  -- what older forms are read as is saved as form 5
+  pub saved-1 : savedBytes ((loadAnswer (savedAs 1 5 10)) .gauge) ≡ savedWider 5 0 0 0
+  pub saved-2 : savedBytes ((loadAnswer (savedAs 2 5 160)) .gauge) ≡ savedWider 5 0 0 0
+  pub saved-3 : savedBytes ((loadAnswer (savedCounting 3 422)) .gauge) ≡ savedWider 5 422 0 0
+  pub saved-4 : savedBytes ((loadAnswer (savedCycling 4 65_535 0x1234 9)) .gauge) ≡ savedWider 5 65_535 0x1234 9

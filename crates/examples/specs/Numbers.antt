@@ -1,8 +1,6 @@
 -- "The fourteen numbers" of paper 01: the example of each row of its table, 14 excepted, which the saved form's own contract tests. Definitions
 -- only; assumes nothing.
-use mathlib.Core.List.{List, [], _∷_}
 use mathlib.Core.Path.{_≡_}
-use Prim.Native.Nat.{ℕ}
 use lib.IntN.{pos, negsuc}
 use lib.ListN.{replicate, set}
 use Rattle.configuration.specs.BenchPack.{benchPack}
@@ -28,10 +26,11 @@ pub record Numbers : Type 0 where
   pub number-5 : sampleRefusal (pos 0) (pos 3_600) (pos 1_373) ≡ 5
   pub least-temperature : sampleRefusal (pos 0) (pos 3_600) (pos 1_012) ≡ 0
   pub most-temperature : sampleRefusal (pos 0) (pos 3_600) (pos 1_372) ≡ 0
-  -- "0", before the temperature; from 1 to 16,875 is in range
+  -- "0", before the temperature; from 1 to 506,250 is in range (A6 of paper 02), and so are a day and one window
   pub number-6 : restRefusal 0 (pos 1_373) ≡ 6
-  pub longest-rest : restRefusal 16_875 (pos 1_192) ≡ 0
-  pub too-long : restRefusal 16_876 (pos 1_192) ≡ 6
+  pub longer-than-a-day : restRefusal 16_876 (pos 1_192) ≡ 0
+  pub longest-rest : restRefusal 506_250 (pos 1_192) ≡ 0
+  pub too-long : restRefusal 506_251 (pos 1_192) ≡ 6
   -- "0x04"
   pub number-7 : writeRefusal 0x44 0 0x04 0xA9 ≡ 7
   -- "0x57"

@@ -5,7 +5,7 @@ use mathlib.Core.Path.{_≡_}
 use Prim.Native.Nat.{ℕ}
 use lib.Dec.{eqb}
 use Rattle.numbers.proofs.BoolLaws.{and-left, and-right}
-use Rattle.form.specs.Form.{Form, formNumbered, newest}
+use Rattle.form.specs.Form.{Form, formWith, newest}
 
 module _ (test : Form → Bool) where
   -- each form of a list passes a test
@@ -13,11 +13,11 @@ module _ (test : Form → Bool) where
   allPass [] = true
   allPass (form ∷ forms) = test form && allPass forms
 
-  pub numbered-passes : (n : ℕ) (forms : List Form) → test newest ≡ true → allPass forms ≡ true → test (formNumbered n forms) ≡ true
-  numbered-passes n [] p q = p
-  numbered-passes n (form ∷ forms) p q =
-      go (eqb n (form .number)) (and-left (test form) (allPass forms) q) (numbered-passes n forms p (and-right (test form) (allPass forms) q))
+  pub found-passes : (key : Form → ℕ) (n : ℕ) (forms : List Form) → test newest ≡ true → allPass forms ≡ true → test (formWith key n forms) ≡ true
+  found-passes key n [] p q = p
+  found-passes key n (form ∷ forms) p q =
+      go (eqb n (key form)) (and-left (test form) (allPass forms) q) (found-passes key n forms p (and-right (test form) (allPass forms) q))
     where
-      go : (t : Bool) → test form ≡ true → test (formNumbered n forms) ≡ true → test (cond t form (formNumbered n forms)) ≡ true
+      go : (t : Bool) → test form ≡ true → test (formWith key n forms) ≡ true → test (cond t form (formWith key n forms)) ≡ true
       go true a b = a
       go false a b = b

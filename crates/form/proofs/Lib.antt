@@ -1,3 +1,5 @@
-pub mod BegunLaws
 pub mod FormsLaws
+pub mod InNewestLaws
+pub mod LaidOutLaws
+pub mod NamesLaws
 pub mod SignedLaws

@@ -70,6 +70,11 @@ abbrev pub replaced : Name → Field → List Field → List Field
 replaced n field [] = []
 replaced n field (f ∷ fs) = cond (sameName n (f .name)) (field ∷ fs) (f ∷ replaced n field fs)
 
+-- the bytes of the fields, one after the other, by what the bytes of a field of some width are
+unfoldable pub laidOut : (Name → ℕ → List ℕ) → List Field → List ℕ
+laidOut fieldBytes [] = []
+laidOut fieldBytes (f ∷ fs) = fieldBytes (f .name) (f .width) ++ laidOut fieldBytes fs
+
 -- ---- forms
 
 pub record Form : Type 0 where
@@ -98,21 +103,29 @@ form3 = record { number = 3; fields = form2 .fields ++ Rests takes 2 ∷ [] }
 abbrev pub form4 : Form
 form4 = record { number = 4; fields = form3 .fields ++ Cyct takes 2 ∷ CycleDrain takes 8 ∷ [] }
 
+-- A6: "Form 5 stores the wider count in place of the two bytes"
+abbrev pub form5 : Form
+form5 = record { number = 5; fields = replaced Rests (Rests takes 4) (form4 .fields) }
+
 -- "saving writes the newest form"
 abbrev pub newest : Form
-newest = form4
+newest = form5
 
 abbrev pub savedLength : ℕ
 savedLength = lengthOf (newest .fields)
 
--- the forms that are read beside it: "Form 1 is still read", "older forms read as 0"
+-- the forms that are read beside it: "Form 1 is still read", "older forms read as 0", "Forms 1 to 4 are read"
 abbrev pub older : List Form
-older = form1 ∷ form2 ∷ form3 ∷ []
+older = form1 ∷ form2 ∷ form3 ∷ form4 ∷ []
+
+-- the first form of a list with that number or length, else the newest
+abbrev pub formWith : (Form → ℕ) → ℕ → List Form → Form
+formWith key n [] = newest
+formWith key n (form ∷ forms) = cond (eqb n (key form)) form (formWith key n forms)
 
 -- the form of a number; any other number is held to the newest, which it is not
 abbrev pub formNumbered : ℕ → List Form → Form
-formNumbered n [] = newest
-formNumbered n (form ∷ forms) = cond (eqb n (form .number)) form (formNumbered n forms)
+formNumbered n forms = formWith (λ form. form .number) n forms
 
 -- the form that bytes are in, which their first byte tells
 abbrev pub formOf : List ℕ → Form

@@ -1,20 +1,21 @@
 -- Each way of a call answers what its tests pick, in the paper's order: told of plain gauges and numbers. Assumes nothing.
 use mathlib.Core.Bool.{Bool, true, false, cond}
 use mathlib.Core.Path.{_≡_, refl, sym, ap, _∙_}
-use Prim.Native.Nat.{ℕ, _<_, _≤_}
+use Prim.Native.Nat.{ℕ}
 use lib.Dec.{eqb, leb, ltb}
 use lib.IntN.{ℤ}
-use Rattle.command.specs.Command.{decide, decisionNumber}
+use Rattle.command.specs.Command.{decide}
 use Rattle.command.specs.declared.command.Command.{Command}
 use Rattle.command.specs.declared.command.Decision.{Decision}
 use Rattle.command.specs.declared.command.Decision.the-variants.{Obey, Refused}
 use Rattle.configuration.specs.Configuration.{dmf}
 use Rattle.refusals.specs.Refusal as Refusal
 use Rattle.sample.specs.Current.{counted}
+use Rattle.sample.specs.Limits.{longestRest}
 use Rattle.sample.specs.Range.{current, currentInRange, temperature, temperatureInRange, voltage, voltageInRange}
 use Rattle.gauge.specs.Accepted.{accepted}
 use Rattle.gauge.specs.Answer.{answered}
-use Rattle.gauge.specs.Calls.{keyAnswer, longestRest, restAnswer, storedAt, windowAnswer, writeAnswer, writeRefusal, written}
+use Rattle.gauge.specs.Calls.{keyAnswer, restAnswer, storedAt, windowAnswer, writeAnswer, writeRefusal, written}
 use Rattle.gauge.specs.Obey.{decided, obeyed}
 use Rattle.gauge.specs.Rest.{rest}
 use Rattle.gauge.specs.Window.{window}

@@ -1,8 +1,8 @@
 -- The calls on a gauge value: which number each yields, in the order of "The fourteen numbers" of paper 01 (14 first, and a rest
 -- 6 before 5), and the gauge that follows. Definitions only; assumes nothing.
-use mathlib.Core.Bool.{Bool, _&&_, cond}
+use mathlib.Core.Bool.{cond}
 use Prim.Native.Nat.{ℕ}
-use lib.Dec.{eqb, leb, ltb}
+use lib.Dec.{eqb, ltb}
 use lib.IntN.{ℤ}
 use Rattle.command.specs.Command.{decide, decisionNumber}
 use Rattle.configuration.specs.Terms.{termsOf}
@@ -10,6 +10,7 @@ use Rattle.host.specs.Host.{stored}
 use Rattle.refusals.specs.Refusal as Refusal
 use Rattle.refusals.specs.Refusal.{orElse}
 use Rattle.sample.specs.Current.{counted}
+use Rattle.sample.specs.Limits.{restInRange}
 use Rattle.sample.specs.Range.{current, currentRefusal, temperature, temperatureRefusal, voltage, voltageRefusal}
 use Rattle.gauge.specs.Answer.{answered, unlessRejected}
 use Rattle.gauge.specs.Obey.{decided}
@@ -29,13 +30,6 @@ windowAnswer g a v t =
     (window (counted ((termsOf (g .configuration)) .dmf) (current a)) (voltage v) (temperature t) g)
 
 -- ---- a rest: 14, 6, 5
-
--- "A rest of n windows (1 to 16,875)"
-abbrev pub longestRest : ℕ
-longestRest = 16_875
-
-abbrev pub restInRange : ℕ → Bool
-restInRange n = ltb 0 n && leb n longestRest
 
 abbrev pub restRefusal : ℕ → ℤ → ℕ
 restRefusal n t = cond (restInRange n) (temperatureRefusal t) Refusal.restLength

@@ -20,8 +20,8 @@ use sample::range::temperature_in_range;
 use sample::range::voltage;
 use sample::range::voltage_in_range;
 
-// "A rest of n windows (1 to 16,875)".
-const LONGEST_REST: u32 = 16_875;
+// "A rest may now last 506,250 windows, thirty days" (A6 of paper 02).
+const LONGEST_REST: u32 = 506_250;
 
 // Where keys are written.
 pub const CTRL: u32 = 0x00;

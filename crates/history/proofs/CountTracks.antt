@@ -50,7 +50,7 @@ unfolding discharge
 outflow-within (pos n) h = let e = no-outflow n in omega arith
 outflow-within (negsuc n) h = h
 
-kept-alike : (t : Bool) {a : ℕ} (x : Counts) → a ≡ restCount x → cond t a 0 ≡ min (cond t (x .rests) 0) 65_535
+kept-alike : (t : Bool) {a : ℕ} (x : Counts) → a ≡ restCount x → cond t a 0 ≡ min (cond t (x .rests) 0) 4_294_967_295
 kept-alike true x e = e
 kept-alike false x e = refl
 

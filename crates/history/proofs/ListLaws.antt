@@ -18,7 +18,7 @@ use Rattle.counters.specs.Cycles.{noCycles}
 use Rattle.counters.proofs.CountersKept.{opened-accepted, opened-counters}
 use Rattle.gauge.specs.Accepted.{accepted}
 use Rattle.gauge.specs.Answer.{answered, unlessRejected}
-use Rattle.gauge.specs.Calls.{restAnswer, restInRange, restRefusal, sampleRefusal, windowAnswer, writeAnswer, writeRefusal}
+use Rattle.gauge.specs.Calls.{restAnswer, restRefusal, sampleRefusal, windowAnswer, writeAnswer, writeRefusal}
 use Rattle.gauge.specs.Fits.{Taken}
 use Rattle.gauge.specs.Opening.{openAnswer, openRefusal, opened}
 use Rattle.gauge.specs.declared.state.Gauge.{Gauge}
@@ -41,6 +41,7 @@ use Rattle.history.proofs.CountTracks.{begun-counts}
 use Rattle.reached.proofs.ChargeKept.{opened-bounded}
 use Rattle.host.proofs.HostKept.{opened-fits}
 use Rattle.history.proofs.NumberLaws.{number-other, numbers-alike}
+use Rattle.sample.specs.Limits.{restInRange}
 use Rattle.sample.proofs.SampleKept.{no-sample}
 use Rattle.standby.proofs.StandbyKept.{opened-standby}
 use Rattle.gauge.proofs.Standing.{Standing, standing, taken}

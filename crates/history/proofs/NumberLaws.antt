@@ -3,7 +3,7 @@ use mathlib.Core.Bool.{Bool, _&&_, _||_, false, true, cond}
 use mathlib.Core.Path.{_≡_, refl, ap}
 use Prim.Native.Nat.{ℕ, _+_, _≤_}
 use native.Mathlib.Omega.{arith}
-use lib.Dec.{eqb, leb, ltb}
+use lib.Dec.{eqb, ltb}
 use lib.IntN.{ℤ, pos, negsuc}
 use lib.Signed.{leZ}
 use Rattle.command.specs.Command.{decide, decisionNumber}
@@ -17,6 +17,7 @@ use Rattle.refusals.specs.Refusal.{orElse}
 use Rattle.permille.specs.Table.{inTable}
 use Rattle.preview.specs.Preview.{previewRefusal}
 use Rattle.registers.specs.Reading.{placeRefusal, readRefusal}
+use Rattle.sample.specs.Limits.{restInRange}
 use Rattle.sample.specs.Range.{between, currentInRange, currentRefusal, temperatureInRange, temperatureRefusal, voltageInRange, voltageRefusal}
 use Rattle.history.specs.After.{numberOf}
 use Rattle.history.specs.Call.{Call}
@@ -78,7 +79,7 @@ number-other (Call.window a v t) x =
     (either-other (voltageInRange v) Refusal.none Refusal.voltageRange (λ e. omega arith) (λ e. omega arith))
     (either-other (temperatureInRange t) Refusal.none Refusal.temperatureRange (λ e. omega arith) (λ e. omega arith)))
 number-other (Call.rest n t) x =
-    either-other (ltb 0 n && leb n 16_875) (temperatureRefusal t) Refusal.restLength
+    either-other (restInRange n) (temperatureRefusal t) Refusal.restLength
     (either-other (temperatureInRange t) Refusal.none Refusal.temperatureRange (λ e. omega arith) (λ e. omega arith)) (λ e. omega arith)
 number-other (Call.write address value) x =
     either-other (ltb 3 address) Refusal.notWritable _ (λ e. omega arith)

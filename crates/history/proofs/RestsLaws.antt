@@ -15,7 +15,7 @@ use Rattle.counters.specs.Counters.{countersRested}
 use Rattle.counters.proofs.CountersLaws.{rested-twice}
 use Rattle.gauge.specs.Accepted.{accepted}
 use Rattle.gauge.specs.Answer.{unlessRejected}
-use Rattle.gauge.specs.Calls.{longestRest, restAnswer, restInRange}
+use Rattle.gauge.specs.Calls.{restAnswer}
 use Rattle.gauge.specs.Rest.{rest}
 use Rattle.gauge.specs.declared.state.Gauge.{Gauge}
 use Rattle.gauge.proofs.AcceptedLaws.{sound-accepted}
@@ -24,6 +24,7 @@ use Rattle.gauge.proofs.Standing.{Standing, standing}
 use Rattle.numbers.proofs.BoolLaws.{and-left}
 use Rattle.refusals.specs.Refusal as Refusal
 use Rattle.refusals.proofs.OrElseLaws.{not-rejected}
+use Rattle.sample.specs.Limits.{longestRest, restInRange}
 use Rattle.sample.specs.Range.{temperature, temperatureInRange, temperatureRefusal}
 use Rattle.sample.specs.Sample.{sampleRested}
 use Rattle.history.specs.After.{after, gaugeAfter, numberOf}

@@ -13,7 +13,7 @@ use Rattle.configuration.specs.Terms.{termsOf}
 use Rattle.counters.proofs.CountersKept.{moved-accepted, moved-fits, rested-accepted, rested-fits}
 use Rattle.gauge.specs.Accepted.{accepted}
 use Rattle.gauge.specs.Answer.{answered, unlessRejected}
-use Rattle.gauge.specs.Calls.{restAnswer, restInRange, restRefusal, sampleRefusal, storedAt, windowAnswer, writeAnswer, writeRefusal, written}
+use Rattle.gauge.specs.Calls.{restAnswer, restRefusal, sampleRefusal, storedAt, windowAnswer, writeAnswer, writeRefusal, written}
 use Rattle.gauge.specs.Obey.{decided}
 use Rattle.gauge.specs.Rest.{rest}
 use Rattle.gauge.specs.Window.{reachedIn, summed, window}
@@ -24,6 +24,7 @@ use Rattle.grains.specs.Leak.{leakRate}
 use Rattle.reached.specs.Reached.{chargeReached, reachedBy}
 use Rattle.refusals.proofs.OrElseLaws.{not-rejected}
 use Rattle.sample.specs.Current.{counted, discharge}
+use Rattle.sample.specs.Limits.{restInRange}
 use Rattle.sample.specs.Range.{current, temperature, temperatureInRange, voltage}
 use Rattle.history.specs.After.{gaugeAfter}
 use Rattle.history.specs.Call.{Call}

@@ -1,5 +1,5 @@
--- What the history counts beside the charge. A4 of paper 02: "rest windows since the last window with c not 0 or since opening or a reset,
--- stopping at 65,535"; A5: cycles, and the drain that they are counted from. It counts them all and stops where a count is asked for.
+-- What the history counts beside the charge. A4 of paper 02: "rest windows since the last window with c not 0 or since opening or a reset", with
+-- the stop of A6; A5: cycles, and the drain that they are counted from. It counts them all and stops where a count is asked for.
 -- Definitions only; assumes nothing.
 use mathlib.Core.Bool.{cond}
 use Prim.Native.Nat.{ℕ, suc, _+_, _*_, _/_, _%_, min}
@@ -43,9 +43,9 @@ countsAfterRest n x = record { rests = x .rests + n; cycles = x .cycles; drain =
 abbrev pub countsAfterPrst : Counts → Counts
 countsAfterPrst x = record { rests = 0; cycles = x .cycles; drain = x .drain }
 
--- "stopping at 65,535"
+-- "stops at 4,294,967,295"
 abbrev pub restCount : Counts → ℕ
-restCount x = min (x .rests) 65_535
+restCount x = min (x .rests) 4_294_967_295
 
 -- "CYCT stops at 65,535"
 abbrev pub cycleCount : Counts → ℕ

@@ -2,12 +2,13 @@
 -- rest windows kept here (A4 of paper 02), worded for the history. Definitions only; assumes nothing.
 use mathlib.Core.Bool.{_&&_, _||_, cond}
 use Prim.Native.Nat.{ℕ, _+_}
-use lib.Dec.{eqb, leb, ltb}
+use lib.Dec.{eqb, ltb}
 use lib.IntN.{pos}
 use lib.Signed.{leZ}
 use Rattle.command.specs.Command.{decide, decisionNumber}
 use Rattle.refusals.specs.Refusal as Refusal
 use Rattle.refusals.specs.Refusal.{orElse}
+use Rattle.sample.specs.Limits.{restInRange}
 use Rattle.sample.specs.Range.{currentRefusal, temperatureRefusal, voltageRefusal}
 use Rattle.history.specs.Call.{Call, window, rest, write, read, preview, estimate}
 use Rattle.history.specs.Kept.{History}
@@ -15,8 +16,8 @@ use Rattle.history.specs.Kept.{History}
 unfoldable pub refusalOf : Call → History → ℕ
 -- 3 "current range", 4 "voltage range", 5 "temperature range"
 refusalOf (window a v t) x = orElse (currentRefusal a) (orElse (voltageRefusal v) (temperatureRefusal t))
--- 6 "rest length", 1 to 16,875, before 5
-refusalOf (rest n t) x = cond (ltb 0 n && leb n 16_875) (temperatureRefusal t) Refusal.restLength
+-- 6 "rest length", 1 to 506,250, before 5
+refusalOf (rest n t) x = cond (restInRange n) (temperatureRefusal t) Refusal.restLength
 -- 7 "address not writable", then 8 to 11 of a key at CTRL
 refusalOf (write address value) x =
     cond (ltb 3 address) Refusal.notWritable

@@ -5,7 +5,7 @@ use mathlib.Core.Path.{_≡_}
 use Prim.Native.Nat.{ℕ, _<_}
 use lib.IntN.{ℤ}
 use lib.ListN.{replicate}
-use Rattle.gauge.specs.Calls.{restInRange}
+use Rattle.sample.specs.Limits.{restInRange}
 use Rattle.gauge.specs.Fits.{Fits}
 use Rattle.gauge.specs.declared.state.Gauge.{Gauge}
 use Rattle.history.specs.After.{after, gaugeAfter, numberOf}

@@ -1,109 +1,95 @@
 -- Bytes of every form: how those of an older form are read in the places of the newest and carried over, by the form that their first byte tells.
 -- Assumes nothing.
 use mathlib.Core.Bool.{Bool, true, false, _&&_, cond}
-use mathlib.Core.List.{List, [], _∷_, _++_}
+use mathlib.Core.List.{List, [], _∷_}
 use mathlib.Core.Path.{_≡_, refl, sym, ap, _∙_}
-use Prim.Native.Nat.{ℕ, _≤_}
-use native.Mathlib.Omega.{arith}
+use Prim.Native.Nat.{ℕ}
 use lib.Dec.{eqb}
 use lib.ListN.{getD, length}
 use borrow.Author.Tests.{eqb-true}
 use Rattle.configuration.specs.Configuration.{s0}
-use Rattle.form.specs.Form.{Configuration, CycleDrain, Cyct, Field, Form, Name, Rests, Sixteenths, _takes_, form1, form2, form3, has, lengthOf}
-use Rattle.form.specs.Form.{newest, numberOf, placeOf, savedLength, widthOf}
-use Rattle.form.proofs.BegunLaws.{bytes-begun, number-begun}
+use Rattle.form.specs.Form.{Configuration, Form, Sixteenths, form1, form2, form3, form4, has, lengthOf, newest, widthOf}
+use Rattle.form.specs.InNewest.{inNewest, placesOf}
+use Rattle.form.proofs.FormsLaws.{found-passes}
+use Rattle.form.proofs.InNewestLaws.{bytes-carried, in-newest-length, number-carried}
+use Rattle.form.proofs.NamesLaws.{noWider}
 use Rattle.gauge.specs.Parts.{gaugeOf}
 use Rattle.gauge.specs.declared.state.Gauge.{Gauge}
-use Rattle.numbers.specs.Little.{bytesAt, numberAt}
-use Rattle.numbers.proofs.BoolLaws.{and-both, and-false, and-left}
+use Rattle.numbers.proofs.BoolLaws.{and-both, and-false, and-left, and-right}
 use Rattle.standby.specs.Standby.{sixteenths}
-use Rattle.load.specs.EveryForm.{carriedStandby, heldFits, inUnits, loadAnswer, told, toldLength}
-use Rattle.load.specs.Load.{answerIn, fitsAs, formFits, loaded, loadedCharge, loadedCounters, loadedHost, loadedSample, standbyFits, unitsFit}
-use Rattle.load.proofs.LoadLaws.{fields-alike}
+use Rattle.load.specs.EveryForm.{carriedStandby, heldFits, inUnits, loadAnswer, told, toldBy, toldLength}
+use Rattle.load.specs.Load.{answerIn, decodedGauge, fitsAs, formFits, loaded, loadedCharge, loadedCounters, loadedHost, loadedSample, standbyFits}
+use Rattle.load.specs.Load.{unitsFit}
+use Rattle.load.specs.declared.every_form.Told.{Told}
+use Rattle.load.proofs.LoadLaws.{decoded-whole, fields-alike}
 
--- ---- forms that the newest begins with
+-- ---- bytes in the places of the newest form
 
-module _ (form : Form) (more : List Field) (e : newest .fields ≡ form .fields ++ more) (bytes : List ℕ) (l : length bytes ≡ lengthOf (form .fields)) where
-  field-begun : (n : Name) → numberOf n newest bytes ≡ numberOf n form bytes
-  field-begun n = ap (λ (fs : List Field). numberAt (widthOf n fs) (placeOf n fs) bytes) e ∙ number-begun n more (form .fields) bytes l
+sameConfiguration : Form → Bool
+sameConfiguration form = eqb (widthOf Configuration (form .fields)) (widthOf Configuration (newest .fields))
 
-  loaded-begun : has Configuration (form .fields) ≡ true → has Sixteenths (newest .fields) ≡ has Sixteenths (form .fields)
-      → loaded newest bytes ≡ loaded form bytes
-  loaded-begun c s =
-      fields-alike newest form bytes bytes field-begun
-      (ap (λ (fs : List Field). bytesAt (widthOf Configuration fs) (placeOf Configuration fs) bytes) e ∙ bytes-begun Configuration more (form .fields) bytes c)
-      s
+-- a form whose fields have room in the newest, with SI in sixteenths
+hasRoom : Form → Bool
+hasRoom form = noWider form (newest .fields) && (sameConfiguration form && has Sixteenths (form .fields))
 
--- ---- what reading bytes of a form in the newest form's places asks
+places-room : (long : ℕ) → hasRoom (placesOf long) ≡ true
+unfolding hasRoom sameConfiguration
+places-room long = found-passes hasRoom (λ (form : Form). lengthOf (form .fields)) long (form2 ∷ form3 ∷ form4 ∷ []) refl refl
+
+room-holds : (form : Form) (bytes : List ℕ) → hasRoom form ≡ true → loaded newest (inNewest form bytes) ≡ loaded form bytes
+unfolding hasRoom sameConfiguration
+room-holds form bytes e =
+    let wide = noWider form (newest .fields) in
+    let si = has Sixteenths (form .fields) in
+    let behind = and-right wide (sameConfiguration form && si) e in
+    fields-alike form (inNewest form bytes) bytes (λ n h. number-carried form bytes n h (and-left wide (sameConfiguration form && si) e))
+    (bytes-carried form bytes Configuration tt (eqb-true _ _ (and-left (sameConfiguration form) si behind))) (and-right (sameConfiguration form) si behind)
+
+pub decoded-holds : (bytes : List ℕ) {whole : List ℕ} {g : Gauge} → whole ≡ inNewest (placesOf (length bytes)) bytes → g ≡ decodedGauge whole
+    → g ≡ loaded (placesOf (length bytes)) bytes
+decoded-holds bytes w e =
+    let form = placesOf (length bytes) in
+    e ∙ ap decodedGauge w ∙ decoded-whole (inNewest form bytes) (in-newest-length form bytes) ∙ room-holds form bytes (places-room (length bytes))
+
+-- ---- what carrying a form over asks
 
 -- a gauge with another SI
 abbrev withStandby : ℕ → Gauge → Gauge
 withStandby standby g = gaugeOf (g .configuration) (g .charge) (g .sample) standby (g .flags) (g .host) (g .counters)
 
+-- the gauge that bytes of a form's length hold in its places
+abbrev inPlaces : Form → List ℕ → Gauge
+inPlaces form bytes = loaded (placesOf (lengthOf (form .fields))) bytes
+
 -- SI in units is held to its limit and multiplied, any other is taken as it is
-record ReadInNewest (form : Form) (units : Bool) : Type 0 where
-  shorter : lengthOf (form .fields) ≤ savedLength
+record CarriedOver (form : Form) (units : Bool) : Type 0 where
   fits : (bytes : List ℕ)
       → fitsAs (form .number) (lengthOf (form .fields)) form bytes ≡ fitsAs (form .number) (lengthOf (form .fields)) newest bytes
-  held : (bytes : List ℕ) → cond units (unitsFit (s0 ((loaded newest bytes) .configuration)) ((loaded newest bytes) .standby)) true ≡ standbyFits form bytes
-  gauge : (bytes : List ℕ) → length bytes ≡ lengthOf (form .fields)
-      → withStandby (cond units (sixteenths ((loaded newest bytes) .standby)) ((loaded newest bytes) .standby)) (loaded newest bytes) ≡ loaded form bytes
+  held : (bytes : List ℕ) → cond units (unitsFit (s0 ((inPlaces form bytes) .configuration)) ((inPlaces form bytes) .standby)) true ≡ standbyFits form bytes
+  gauge : (bytes : List ℕ)
+      → withStandby (cond units (sixteenths ((inPlaces form bytes) .standby)) ((inPlaces form bytes) .standby)) (inPlaces form bytes) ≡ loaded form bytes
 
-newest-read : ReadInNewest newest false
-newest-read = record { shorter = omega arith; fits = λ bytes. refl; held = λ bytes. refl; gauge = λ bytes l. refl }
-
-form-3-read : ReadInNewest form3 false
-form-3-read =
-    record {
-      shorter = omega arith;
-      fits = λ bytes. refl;
-      held = λ bytes. refl;
-      gauge = λ bytes l. loaded-begun form3 (Cyct takes 2 ∷ CycleDrain takes 8 ∷ []) refl bytes l refl refl;
-    }
-
-form-2-read : ReadInNewest form2 false
-form-2-read =
-    record {
-      shorter = omega arith;
-      fits = λ bytes. refl;
-      held = λ bytes. refl;
-      gauge = λ bytes l. loaded-begun form2 (Rests takes 2 ∷ Cyct takes 2 ∷ CycleDrain takes 8 ∷ []) refl bytes l refl refl;
-    }
-
--- form 1 has form 2's places and length
-form-1-read : ReadInNewest form1 true
+each-form : (first : ℕ) → CarriedOver (told first) (inUnits first)
 unfolding loaded loadedCharge loadedSample loadedHost loadedCounters
-form-1-read =
-    record {
-      shorter = omega arith;
-      fits = λ bytes. refl;
-      held = λ bytes. refl;
-      gauge = λ bytes l. ap (λ (x : Gauge). withStandby (sixteenths (x .standby)) x) (form-2-read .gauge bytes l);
-    }
-
-each-form : (first : ℕ) → ReadInNewest (told first) (inUnits first)
-each-form first = go (eqb first 1) (eqb first 2) (eqb first 3)
+each-form first = go (eqb first 1) (eqb first 2) (eqb first 3) (eqb first 4)
   where
-    go : (t u v : Bool) → ReadInNewest (cond t form1 (cond u form2 (cond v form3 newest))) t
-    go true u v = form-1-read
-    go false true v = form-2-read
-    go false false true = form-3-read
-    go false false false = newest-read
-
-pub told-shorter : (first : ℕ) {long : ℕ} → long ≡ toldLength first → long ≤ savedLength
-told-shorter first e = let h = each-form first .shorter in omega arith
+    go : (t u v w : Bool) → CarriedOver (cond t form1 (cond u form2 (cond v form3 (cond w form4 newest)))) t
+    go true u v w = record { fits = λ bytes. refl; held = λ bytes. refl; gauge = λ bytes. refl }
+    go false true v w = record { fits = λ bytes. refl; held = λ bytes. refl; gauge = λ bytes. refl }
+    go false false true w = record { fits = λ bytes. refl; held = λ bytes. refl; gauge = λ bytes. refl }
+    go false false false true = record { fits = λ bytes. refl; held = λ bytes. refl; gauge = λ bytes. refl }
+    go false false false false = record { fits = λ bytes. refl; held = λ bytes. refl; gauge = λ bytes. refl }
 
 -- ---- the ways of a load, by what each callee gives
 
 -- the first byte, the number and the length that it tells, and the test of both
-pub record Tested (bytes : List ℕ) (b n l : ℕ) (test : Bool) : Type 0 where
+pub record Tested (bytes : List ℕ) (b : ℕ) (t : Told) (test : Bool) : Type 0 where
   pub first : b ≡ getD bytes 0 0
-  pub number : n ≡ (told b) .number
-  pub long : l ≡ toldLength b
-  pub fit : test ≡ fitsAs n l newest bytes
+  pub tells : t ≡ toldBy b
+  pub fit : test ≡ fitsAs (t .number) (t .length) newest bytes
 
-module _ {bytes : List ℕ} {first number long : ℕ} {fit : Bool} (k : Tested bytes first number long fit) where
-  read : ReadInNewest (told first) (inUnits first)
+module _ {bytes : List ℕ} {first : ℕ} {form : Told} {fit : Bool} (k : Tested bytes first form fit) where
+  read : CarriedOver (told first) (inUnits first)
   read = each-form first
 
   pub is-told : answerIn (told first) bytes ≡ loadAnswer bytes
@@ -112,9 +98,7 @@ module _ {bytes : List ℕ} {first number long : ℕ} {fit : Bool} (k : Tested b
 
   fit-is : fit ≡ fitsAs ((told first) .number) (toldLength first) (told first) bytes
   unfolding read
-  fit-is =
-      k .fit ∙ ap (λ (n : ℕ). fitsAs n long newest bytes) (k .number) ∙ ap (λ (n : ℕ). fitsAs ((told first) .number) n newest bytes) (k .long)
-      ∙ sym (read .fits bytes)
+  fit-is = k .fit ∙ ap (λ (t : Told). fitsAs (t .number) (t .length) newest bytes) (k .tells) ∙ sym (read .fits bytes)
 
   pub misfit : fit ≡ false → formFits (told first) bytes ≡ false
   unfolding formFits
@@ -124,10 +108,13 @@ module _ {bytes : List ℕ} {first number long : ℕ} {fit : Bool} (k : Tested b
     pub fit-length : length bytes ≡ toldLength first
     fit-length = eqb-true (length bytes) (toldLength first) (and-left (eqb (length bytes) (toldLength first)) _ (sym fit-is ∙ good))
 
-    module _ {g : Gauge} {held : Bool} (p : g ≡ loaded newest bytes) (h : held ≡ heldFits first (s0 (g .configuration)) (g .standby)) where
+    module _ {g : Gauge} {held : Bool} (p : g ≡ loaded (placesOf (length bytes)) bytes) (h : held ≡ heldFits first (s0 (g .configuration)) (g .standby)) where
+      in-places : g ≡ inPlaces (told first) bytes
+      in-places = p ∙ ap (λ (n : ℕ). loaded (placesOf n) bytes) fit-length
+
       held-is : held ≡ standbyFits (told first) bytes
       unfolding read heldFits
-      held-is = h ∙ ap (λ (x : Gauge). heldFits first (s0 (x .configuration)) (x .standby)) p ∙ read .held bytes
+      held-is = h ∙ ap (λ (x : Gauge). heldFits first (s0 (x .configuration)) (x .standby)) in-places ∙ read .held bytes
 
       pub held-misfit : held ≡ false → formFits (told first) bytes ≡ false
       unfolding formFits
@@ -142,4 +129,4 @@ module _ {bytes : List ℕ} {first number long : ℕ} {fit : Bool} (k : Tested b
       pub carried : {s : ℕ} → s ≡ carriedStandby first (g .standby) → withStandby s g ≡ loaded (told first) bytes
       unfolding read carriedStandby
       carried c =
-          ap (λ (n : ℕ). withStandby n g) c ∙ ap (λ (x : Gauge). withStandby (carriedStandby first (x .standby)) x) p ∙ read .gauge bytes fit-length
+          ap (λ (n : ℕ). withStandby n g) c ∙ ap (λ (x : Gauge). withStandby (carriedStandby first (x .standby)) x) in-places ∙ read .gauge bytes

@@ -1,4 +1,4 @@
+pub mod CopiedLaws
 pub mod EveryFormLaws
-pub mod LengthenedLaws
 pub mod LoadLaws
 pub mod TakenLaws

@@ -5,13 +5,13 @@ use mathlib.Core.List.{List, []}
 use mathlib.Core.Path.{_≡_, refl, sym, ap, _∙_}
 use Prim.Native.Nat.{ℕ}
 use native.Mathlib.Omega.{arith}
-use lib.Dec.{eqb}
+use lib.Dec.{T, eqb}
 use lib.ListN.{getD, length, replicate}
 use borrow.Author.Tests.{eq-eqb, eqb-true, ne-eqb}
 use Rattle.charge.specs.declared.charge.Charge.{Charge}
 use Rattle.flags.specs.Byte.{flagsFit, flagsOf, vdqOf}
 use Rattle.flags.specs.declared.flags.Flags as Flag
-use Rattle.form.specs.Form.{Ar, Configuration, Current, CycleDrain, Cyct, Dcr, Flags, FormNumber, Held, Lmd, Mode, Rests, Sixteenths, Standby}
+use Rattle.form.specs.Form.{Ar, Configuration, Current, CycleDrain, Cyct, Dcr, Flags, FormNumber, Held, Lmd, Mode, Rests, Sixteenths}
 use Rattle.form.specs.Form.{Form, Name, Temperature, Voltage, bytesOf, has, lengthOf, newest, numberOf, placeOf, savedLength}
 use Rattle.form.specs.Signed.{currentOf}
 use Rattle.counters.specs.declared.counters.Counters.{Counters}
@@ -30,8 +30,7 @@ use Rattle.refusals.specs.Refusal as Refusal
 use Rattle.sample.specs.declared.current.Current as Amount
 use Rattle.sample.specs.declared.sample.Sample.{Sample}
 use Rattle.load.specs.Load.{acceptedAnswer, answerIn, decodedGauge, fitsAs, formFits, loaded, loadedCharge, loadedCounters, loadedHost, loadedSample}
-use Rattle.load.specs.Load.{loadedStandby, ofLength, rejectedAnswer, standbyFits}
-use Rattle.standby.specs.Standby.{sixteenths}
+use Rattle.load.specs.Load.{ofLength, rejectedAnswer, standbyFits}
 
 -- ---- records whose parts agree
 
@@ -56,21 +55,14 @@ host-alike p q = cc
 pub counters-alike : {m n k l d e : ℕ} → m ≡ n → k ≡ l → d ≡ e → countersOf m (cyclesOf k d) ≡ countersOf n (cyclesOf l e)
 counters-alike p q r = cc
 
--- bytes of two forms, field by field
-pub fields-alike : (form other : Form) (a b : List ℕ) → ((n : Name) → numberOf n form a ≡ numberOf n other b)
-    → bytesOf Configuration form a ≡ bytesOf Configuration other b → has Sixteenths (form .fields) ≡ has Sixteenths (other .fields)
-    → loaded form a ≡ loaded other b
+-- bytes of the newest form and of another, field by field
+pub fields-alike : (form : Form) (a b : List ℕ) → ((n : Name) → T (has n (newest .fields)) → numberOf n newest a ≡ numberOf n form b)
+    → bytesOf Configuration newest a ≡ bytesOf Configuration form b → has Sixteenths (form .fields) ≡ true → loaded newest a ≡ loaded form b
 unfolding loaded loadedCharge loadedSample loadedHost loadedCounters
-fields-alike form other a b same configuration sixteenth =
-    gauge-alike configuration (charge-alike (same Held) (same Lmd) (ap vdqOf (same Flags)) (same Dcr))
-    (sample-alike (ap currentOf (same Current)) (same Voltage) (same Temperature)) standby (ap flagsOf (same Flags))
-    (host-alike (same Mode) (same Ar)) (counters-alike (same Rests) (same Cyct) (same CycleDrain))
-  where
-    standby : loadedStandby form a ≡ loadedStandby other b
-    standby =
-        ap (λ (t : Bool). cond t (numberOf Sixteenths form a) (sixteenths (numberOf Standby form a))) sixteenth
-        ∙ ap (λ (n : ℕ). cond (has Sixteenths (other .fields)) n (sixteenths (numberOf Standby form a))) (same Sixteenths)
-        ∙ ap (λ (n : ℕ). cond (has Sixteenths (other .fields)) (numberOf Sixteenths other b) (sixteenths n)) (same Standby)
+fields-alike form a b same configuration sixteenth =
+    gauge-alike configuration (charge-alike (same Held tt) (same Lmd tt) (ap vdqOf (same Flags tt)) (same Dcr tt))
+    (sample-alike (ap currentOf (same Current tt)) (same Voltage tt) (same Temperature tt)) (same Sixteenths tt ∙ simp sixteenth)
+    (ap flagsOf (same Flags tt)) (host-alike (same Mode tt) (same Ar tt)) (counters-alike (same Rests tt) (same Cyct tt) (same CycleDrain tt))
 
 -- ---- what is read
 

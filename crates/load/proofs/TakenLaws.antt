@@ -1,21 +1,23 @@
 -- Accepted bytes of a form hold gauges of the widths that every gauge has, since no field of any form is wider. Assumes nothing.
 use mathlib.Core.Bool.{Bool, true, _&&_}
-use mathlib.Core.List.{List, [], _∷_}
-use mathlib.Core.Path.{_≡_, refl, ap, _∙_}
+use mathlib.Core.List.{List}
+use mathlib.Core.Path.{_≡_, refl, _∙_}
 use Prim.Native.Nat.{ℕ, zero, suc, _<_, _^_}
 use native.Mathlib.Omega.{arith}
-use lib.Dec.{T, eqb, leb}
-use lib.ListN.{getD, length}
-use borrow.Author.Tests.{eqb-true, leb-true}
+use lib.Dec.{T, eqb}
+use lib.ListN.{getD}
+use borrow.Author.Tests.{eqb-true}
 use Rattle.form.specs.Form.{Ar, Configuration, CycleDrain, Cyct, Lmd, Mode, Rests}
-use Rattle.form.specs.Form.{Field, Form, _takes_, formOf, newest, numberOf, older, placeOf, widthOf}
-use Rattle.form.proofs.FormsLaws.{allPass, numbered-passes}
+use Rattle.form.specs.Form.{Form, Name, formOf, has, newest, numberOf, older, placeOf, widthOf}
+use Rattle.form.proofs.FormsLaws.{allPass, found-passes}
+use Rattle.form.proofs.NamesLaws.{noWider, width-within}
 use Rattle.gauge.specs.Accepted.{accepted}
 use Rattle.gauge.specs.Fits.{Taken}
 use Rattle.gauge.proofs.AcceptedLaws.{sound}
 use Rattle.gauge.proofs.Standing.{taken}
 use Rattle.numbers.specs.Little.{bytesAt}
 use Rattle.numbers.proofs.BoolLaws.{and-left, and-right}
+use Rattle.numbers.proofs.BytesLaws.{bytes-length}
 use Rattle.numbers.proofs.LittleLaws.{number-within}
 use Rattle.load.specs.Load.{loaded, loadedCharge, loadedCounters, loadedHost}
 
@@ -24,34 +26,22 @@ use Rattle.load.specs.Load.{loaded, loadedCharge, loadedCounters, loaded
 configured : Form → Bool
 configured form = eqb (widthOf Configuration (form .fields)) 10
 
--- how wide each of these numbers is in a gauge
-limits : List Field
-limits = Lmd takes 2 ∷ Ar takes 2 ∷ Mode takes 1 ∷ Rests takes 2 ∷ Cyct takes 2 ∷ CycleDrain takes 8 ∷ []
-
--- each that a form has is no wider
-noWider : List Field → Form → Bool
-noWider [] form = true
-noWider (f ∷ fs) form = leb (widthOf (f .name) (form .fields)) (f .width) && noWider fs form
-
+-- the newest form's fields are as wide as a gauge has them
 narrow : Form → Bool
-narrow form = configured form && noWider limits form
+narrow form = configured form && noWider form (newest .fields)
 
 newest-narrow : narrow newest ≡ true
-unfolding narrow configured noWider limits
+unfolding narrow configured
 newest-narrow = refl
 
 older-narrow : allPass narrow older ≡ true
-unfolding narrow configured noWider limits
+unfolding narrow configured
 older-narrow = refl
 
 form-narrow : (s : List ℕ) → narrow (formOf s) ≡ true
-form-narrow s = numbered-passes narrow (getD s 0 0) older newest-narrow older-narrow
+form-narrow s = found-passes narrow (λ (form : Form). form .number) (getD s 0 0) older newest-narrow older-narrow
 
 -- ---- bytes from a place on
-
-at-length : (width place : ℕ) (s : List ℕ) → length (bytesAt width place s) ≡ width
-at-length zero place s = refl
-at-length (suc width) place s = ap suc (at-length width (suc place) s)
 
 at-small : (width place : ℕ) (s : List ℕ) → ((k : ℕ) → getD s k 0 < 256) → (k : ℕ) → getD (bytesAt width place s) k 0 < 256
 at-small zero place s small k = omega arith
@@ -61,42 +51,30 @@ at-small (suc width) place s small (suc k) = at-small width (suc place) s small 
 -- ---- gauges
 
 module _ (form : Form) (s : List ℕ) (small : (k : ℕ) → getD s k 0 < 256) where
-  -- each number is below its limit
-  Within : List Field → Type 0
-  Within [] = T true
-  Within (f ∷ fs) = (numberOf (f .name) form s < 256 ^ f .width) × Within fs
-
-  all-within : (fs : List Field) → noWider fs form ≡ true → Within fs
-  unfolding noWider Within
-  all-within [] e = tt
-  all-within (f ∷ fs) e =
-      let test = leb (widthOf (f .name) (form .fields)) (f .width) in (
-        number-within (f .width) (widthOf (f .name) (form .fields)) (placeOf (f .name) (form .fields)) s small
-            (leb-true (widthOf (f .name) (form .fields)) (f .width) (and-left test (noWider fs form) e)),
-        all-within fs (and-right test (noWider fs form) e),
-      )
-
   narrow-taken : narrow form ≡ true → accepted (loaded form s) ≡ true → Taken (loaded form s)
-  unfolding loaded loadedCharge loadedHost loadedCounters narrow configured limits Within
-  narrow-taken n good =
+  unfolding loaded loadedCharge loadedHost loadedCounters narrow configured
+  narrow-taken e good =
       let fields = form .fields in
-      let ten = eqb-true (widthOf Configuration fields) 10 (and-left (configured form) (noWider limits form) n) in
-      let w = all-within limits (and-right (configured form) (noWider limits form) n) in
-      let lmd = w .0 in
-      let ar = w .1 .0 in
-      let mode = w .1 .1 .0 in
-      let counted = w .1 .1 .1 in
+      let ten = eqb-true (widthOf Configuration fields) 10 (and-left (configured form) (noWider form (newest .fields)) e) in
+      let lmd = within Lmd tt in
+      let ar = within Ar tt in
+      let mode = within Mode tt in
       taken (loaded form s)
       (record {
         ten = record {
-          ten = at-length (widthOf Configuration fields) (placeOf Configuration fields) s ∙ ten;
+          ten = bytes-length (widthOf Configuration fields) (placeOf Configuration fields) s ∙ ten;
           bytes = at-small (widthOf Configuration fields) (placeOf Configuration fields) s small;
         };
         sound = sound (loaded form s) good;
         lmd = omega arith;
         host = record { mode = omega arith; ar = omega arith };
-        counters = record { rests = counted .0; cyct = counted .1 .0; drain = counted .1 .1 .0 };
+        counters = record { rests = within Rests tt; cyct = within Cyct tt; drain = within CycleDrain tt };
       })
+    where
+      within : (n : Name) → T (has n (newest .fields)) → numberOf n form s < 256 ^ widthOf n (newest .fields)
+      within n h =
+          number-within (widthOf n (newest .fields)) (widthOf n (form .fields)) (placeOf n (form .fields)) s small
+          (width-within form n (newest .fields) h (and-right (configured form) (noWider form (newest .fields)) e))
 
 -- ---- bytes of any form
 

@@ -1,12 +1,12 @@
 -- Loading reads every form: "Form 1 is still read" (A1 of paper 02). Definitions only; assumes nothing.
 use mathlib.Core.Bool.{Bool, true, cond}
-use mathlib.Core.List.{List, _++_}
+use mathlib.Core.List.{List}
 use Prim.Native.Nat.{ℕ}
 use lib.Dec.{eqb}
-use lib.ListN.{drop, length, replicate}
-use Rattle.form.specs.Form.{Form, form1, formNumbered, formOf, lengthOf, older, savedLength}
+use Rattle.form.specs.Form.{Form, form1, formNumbered, formOf, lengthOf, older}
 use Rattle.gauge.specs.declared.answer.Answer.{Answer}
 use Rattle.load.specs.Load.{answerIn, unitsFit}
+use Rattle.load.specs.declared.every_form.Told.{Told}
 use Rattle.standby.specs.Standby.{sixteenths}
 
 -- the gauge that bytes hold in the form that they are in, or 14
@@ -22,9 +22,9 @@ told first = formNumbered first older
 abbrev pub toldLength : ℕ → ℕ
 toldLength first = lengthOf ((told first) .fields)
 
--- bytes with zeros behind them up to the newest form's length
-unfoldable pub lengthened : List ℕ → List ℕ
-lengthened bytes = bytes ++ drop (length bytes) (replicate savedLength 0)
+-- what its bytes are tested for first
+abbrev pub toldBy : ℕ → Told
+toldBy first = record { number = (told first) .number; length = toldLength first }
 
 -- form 1 alone has SI in units
 abbrev pub inUnits : ℕ → Bool

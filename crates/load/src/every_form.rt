@@ -4,7 +4,8 @@ ghost use mathlib.Core.Path.{_≡_};
 ghost use Prim.Native.Nat.{_≤_};
 ghost use lib.ListN.{length};
 ghost use Rattle.configuration.specs.Terms.{termsOf};
-ghost use Rattle.form.specs.Form.{form1, newest};
+ghost use Rattle.form.specs.Form.{form1, form4, lengthOf};
+ghost use Rattle.form.specs.InNewest.{inNewest, placesOf};
 ghost use Rattle.load.specs.EveryForm as Spec;
 ghost use Rattle.load.specs.Load.{loaded};
 use crate::load::decoded;
@@ -13,48 +14,60 @@ use crate::load::rejected;
 use crate::load::unless_rejected;
 use configuration::configuration::Configuration;
 use configuration::configuration::s0;
+use form::form::AT_CYCT;
 use form::form::AT_FORM;
 use form::form::FORM;
 use form::form::FORM_1;
 use form::form::FORM_2;
 use form::form::FORM_3;
+use form::form::FORM_4;
 use form::form::LENGTH;
 use form::form::LENGTH_1;
 use form::form::LENGTH_2;
 use form::form::LENGTH_3;
+use form::form::LENGTH_4;
 use gauge::answer::Answer;
 use gauge::state::Gauge;
 use numbers::little::byte_at;
 
-// The number of the form that the first byte tells; that of no form is held to the newest.
-fn told_number(first: u8) -> u8
-    ensures { λ r. ⌜ r ≡ (Spec.told first) .number ⌝ }
-{
-    if first == FORM_1 {
-        return FORM_1;
-    }
-    if first == FORM_2 {
-        return FORM_2;
-    }
-    if first == FORM_3 {
-        return FORM_3;
-    }
-    FORM
+// A form by what its bytes are tested for first.
+struct Told {
+    number: u8,
+    length: u16,
 }
 
-fn told_length(first: u8) -> u16
-    ensures { λ r. ⌜ r ≡ Spec.toldLength first ⌝ }
+// The form that the first byte tells; a byte that is the number of none is held to the newest.
+fn told_by(first: u8) -> Told
+    ensures { λ r. ⌜ r ≡ Spec.toldBy first ⌝ }
 {
     if first == FORM_1 {
-        return LENGTH_1;
+        return Told {
+            number: FORM_1,
+            length: LENGTH_1,
+        };
     }
     if first == FORM_2 {
-        return LENGTH_2;
+        return Told {
+            number: FORM_2,
+            length: LENGTH_2,
+        };
     }
     if first == FORM_3 {
-        return LENGTH_3;
+        return Told {
+            number: FORM_3,
+            length: LENGTH_3,
+        };
     }
-    LENGTH
+    if first == FORM_4 {
+        return Told {
+            number: FORM_4,
+            length: LENGTH_4,
+        };
+    }
+    Told {
+        number: FORM,
+        length: LENGTH,
+    }
 }
 
 // "SI ≤ 2 × S0", of SI in units; what fits can be multiplied by 16 in two bytes.
@@ -78,40 +91,58 @@ fn carried_standby(first: u8, standby: u16) -> u16
     standby
 }
 
-// Bytes of the length that their first byte tells, with zeros behind them. Each length is copied by itself, so that the compiler knows how many bytes
-// it copies.
-fn lengthened(bytes: &[u8], first: u8) -> [u8; LENGTH as usize]
+// Bytes of form 4's length in the places of the newest form: what stands behind its count moves up.
+fn form_4_in_newest(bytes: &[u8]) -> [u8; LENGTH as usize]
+    requires { ⌜ length (now bytes) ≡ lengthOf (form4 .fields) ⌝ }
+    ensures { λ r. ⌜ r ≡ inNewest form4 (now (bytes .entry)) ⌝ }
+{
+    let mut whole = [0u8; LENGTH as usize];
+    bytes::copy(&bytes[..LENGTH_3 as usize], &mut whole);
+    bytes::copy(
+        &bytes[LENGTH_3 as usize..LENGTH_4 as usize],
+        &mut whole[AT_CYCT as usize..],
+    );
+    whole
+}
+
+// Bytes of the length that their first byte tells, in the places of the newest form, over zeros. Each length is copied by itself, so that the compiler
+// knows how many bytes it copies.
+fn in_newest(bytes: &[u8], first: u8) -> [u8; LENGTH as usize]
     requires { ⌜ length (now bytes) ≡ Spec.toldLength first ⌝ }
-    ensures { λ r. ⌜ r ≡ Spec.lengthened (now (bytes .entry)) ⌝ }
+    ensures { λ r. ⌜ r ≡ inNewest (placesOf (length (now (bytes .entry)))) (now (bytes .entry)) ⌝ }
 {
     let mut whole = [0u8; LENGTH as usize];
     if bytes.len() == LENGTH as usize {
         bytes::copy(bytes, &mut whole);
         return whole;
     }
+    if bytes.len() == LENGTH_4 as usize {
+        return form_4_in_newest(bytes);
+    }
     if bytes.len() == LENGTH_3 as usize {
         bytes::copy(bytes, &mut whole);
         return whole;
     }
-    bytes::copy(&bytes[..LENGTH_1 as usize], &mut whole);
+    bytes::copy(&bytes[..LENGTH_2 as usize], &mut whole);
     whole
 }
 
 // What bytes of any form hold: they are read as bytes of the newest form are, so that the function that reads them is in the archive once.
 fn decoded_in_newest(bytes: &[u8], first: u8) -> Gauge
     requires { ⌜ length (now bytes) ≡ Spec.toldLength first ⌝ }
-    ensures { λ r. ⌜ r ≡ loaded newest (now (bytes .entry)) ⌝ }
+    ensures { λ r. ⌜ r ≡ loaded (placesOf (length (now (bytes .entry)))) (now (bytes .entry)) ⌝ }
 {
-    let whole = lengthened(bytes, first);
+    let whole = in_newest(bytes, first);
     decoded(&whole)
 }
 
-// The gauge that the bytes hold, in the form that their first byte tells, or 14. An older form has the newest form's places up to its end.
+// The gauge that the bytes hold, in the form that their first byte tells, or 14. What is tested first stands at the same places in every form.
 pub fn load(bytes: &[u8]) -> Answer
     ensures { λ r. ⌜ r ≡ Spec.loadAnswer (now (bytes .entry)) ⌝ }
 {
     let first = byte_at(bytes, AT_FORM as usize);
-    if !in_form(bytes, told_number(first), told_length(first)) {
+    let form = told_by(first);
+    if !in_form(bytes, form.number, form.length) {
         return rejected();
     }
     let mut gauge = decoded_in_newest(bytes, first);

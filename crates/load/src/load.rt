@@ -33,6 +33,7 @@ use grains::run::Run;
 use host::host::Host;
 use numbers::little::byte_at;
 use numbers::little::eight_at;
+use numbers::little::four_at;
 use numbers::little::ten_at;
 use numbers::little::two_at;
 use refusals::NONE;
@@ -74,7 +75,7 @@ fn loaded_host(bytes: &[u8]) -> Host
 fn loaded_counters(bytes: &[u8]) -> Counters
     ensures { λ r. ⌜ r ≡ Spec.loadedCounters newest (now (bytes .entry)) ⌝ }
 {
-    let rests = two_at(bytes, AT_RESTS);
+    let rests = four_at(bytes, AT_RESTS);
     let cyct = two_at(bytes, AT_CYCT);
     let drain = eight_at(bytes, AT_CYCLE_DRAIN);
     let cycles = Cycles { cyct, drain };

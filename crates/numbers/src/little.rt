@@ -69,6 +69,13 @@ pub fn two_at(bytes: &[u8], place: u16) -> u16
     two_from(bytes, place as usize)
 }
 
+// The four bytes at a place, as a number.
+pub fn four_at(bytes: &[u8], place: u16) -> u32
+    ensures { λ r. ⌜ r ≡ Spec.numberAt 4 place (now (bytes .entry)) ⌝ }
+{
+    four_from(bytes, place as usize)
+}
+
 // The eight bytes at a place, as a number.
 pub fn eight_at(bytes: &[u8], place: u16) -> u64
     ensures { λ r. ⌜ r ≡ Spec.numberAt 8 place (now (bytes .entry)) ⌝ }

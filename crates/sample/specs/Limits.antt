@@ -1,7 +1,7 @@
--- The limits of a sample in "A window" of paper 01, which "Saved gauge" asks of a gauge too. Definitions only; assumes nothing.
+-- The limits of a sample in "A window" of paper 01, which "Saved gauge" asks of a gauge too, and of a rest. Definitions only; assumes nothing.
 use mathlib.Core.Bool.{Bool, _&&_, _||_}
 use Prim.Native.Nat.{ℕ}
-use lib.Dec.{eqb, leb}
+use lib.Dec.{eqb, leb, ltb}
 
 -- "current a (units, positive charging, −28,011 to 28,011)"
 abbrev pub mostCurrent : ℕ
@@ -27,3 +27,10 @@ within least most n = leb least n && leb n most
 -- "0 or in range"
 unfoldable pub zeroOrWithin : ℕ → ℕ → ℕ → Bool
 zeroOrWithin least most n = eqb n 0 || within least most n
+
+-- "A rest of n windows", from 1; "may now last 506,250 windows, thirty days" (A6 of paper 02)
+abbrev pub longestRest : ℕ
+longestRest = 506_250
+
+abbrev pub restInRange : ℕ → Bool
+restInRange n = ltb 0 n && leb n longestRest

@@ -13,7 +13,7 @@ use Rattle.flags.specs.Byte.{flagsFit, flagsOf, vdqOf}
 use Rattle.flags.proofs.FlagsByteLaws.{byte-accepted, byte-back, byte-fits, flags-back, vdq-back}
 use Rattle.form.proofs.SignedLaws.{current-back, pair-back, pair-fits}
 use Rattle.form.specs.Form.{Ar, Configuration, Current, CycleDrain, Cyct, Dcr, Flags, FormNumber, Held, Lmd, Mode, Rests, Sixteenths, Temperature}
-use Rattle.form.specs.Form.{Name, Voltage, bytesOf, has, newest, numberOf, placeOf, savedLength, widthOf}
+use Rattle.form.specs.Form.{Name, Voltage, bytesOf, has, laidOut, newest, numberOf, placeOf, savedLength, widthOf}
 use Rattle.form.specs.Signed.{currentOf, signedPair}
 use Rattle.gauge.specs.Accepted.{accepted}
 use Rattle.gauge.specs.Fits.{Fits}
@@ -32,11 +32,11 @@ use Rattle.sample.specs.Sample.{currentAccepted}
 use Rattle.saved.proofs.FormLaws.{field-found, fields-held, number-found}
 use Rattle.saved.proofs.SaveLaws.{saved-length}
 use Rattle.saved.specs.RoundTrip.{reloadedAnswer}
-use Rattle.saved.specs.Save.{bufferAfter, fieldBytes, fieldsBytes, flagsOfGauge, saveRefusal, savedBytes}
+use Rattle.saved.specs.Save.{bufferAfter, fieldBytes, flagsOfGauge, saveRefusal, savedBytes}
 
 -- what is saved is in the newest form
 pub newest-loads : (g : Gauge) → loadAnswer (savedBytes g) ≡ answerIn newest (savedBytes g)
-unfolding loadAnswer savedBytes fieldsBytes fieldBytes
+unfolding loadAnswer savedBytes laidOut fieldBytes
 newest-loads g = refl
 
 abbrev answer : ℕ → Gauge → Answer

@@ -1,13 +1,13 @@
 -- "Saved gauge" of paper 01, saving: every byte of a form from the gauge; "saving writes the newest form" (A1 of paper 02). Definitions only;
 -- assumes nothing.
 use mathlib.Core.Bool.{cond}
-use mathlib.Core.List.{List, [], _∷_, _++_}
+use mathlib.Core.List.{List}
 use Prim.Native.Nat.{ℕ}
 use lib.Dec.{eqb}
 use lib.ListN.{length}
 use Rattle.flags.specs.Byte.{flagsByte}
 use Rattle.form.specs.Form.{Ar, Configuration, Current, CycleDrain, Cyct, Dcr, Flags, FormNumber, Held, Lmd, Mode, Rests, Sixteenths, Standby}
-use Rattle.form.specs.Form.{Field, Form, Name, Temperature, Voltage, newest, savedLength}
+use Rattle.form.specs.Form.{Form, Name, Temperature, Voltage, laidOut, newest, savedLength}
 use Rattle.form.specs.Signed.{signedPair}
 use Rattle.gauge.specs.Answer.{unlessRejected}
 use Rattle.gauge.specs.declared.state.Gauge.{Gauge}
@@ -38,13 +38,9 @@ fieldBytes form g Rests width = little width (g .counters .rests)
 fieldBytes form g Cyct width = little width (g .counters .cycles .cyct)
 fieldBytes form g CycleDrain width = little width (g .counters .cycles .drain)
 
--- the bytes of the fields, one after the other
-unfoldable pub fieldsBytes : ℕ → Gauge → List Field → List ℕ
-fieldsBytes form g [] = []
-fieldsBytes form g (f ∷ fs) = fieldBytes form g (f .name) (f .width) ++ fieldsBytes form g fs
-
+-- a gauge in a form: the bytes of its fields, one after the other
 abbrev pub bytesIn : Form → Gauge → List ℕ
-bytesIn form g = fieldsBytes (form .number) g (form .fields)
+bytesIn form g = laidOut (fieldBytes (form .number) g) (form .fields)
 
 unfoldable pub savedBytes : Gauge → List ℕ
 savedBytes g = bytesIn newest g

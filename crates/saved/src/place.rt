@@ -27,7 +27,7 @@ pub(crate) fn put_two(bytes: &mut Saved, place: u16, value: u16)
     bytes[next] = (value / 256) as u8;
 }
 
-fn put_four(bytes: &mut Saved, place: u16, value: u32)
+pub(crate) fn put_four(bytes: &mut Saved, place: u16, value: u32)
     requires { ⌜ place + 4 ≤ savedLength ⌝ }
     ensures { λ _. ⌜ now (bytes .exit) ≡ sets (now (bytes .entry)) place (little 4 value) ⌝ }
 {

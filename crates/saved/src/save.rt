@@ -6,6 +6,7 @@ ghost use Rattle.saved.specs.Put as Put;
 ghost use Rattle.saved.specs.Save as Spec;
 use crate::place::Saved;
 use crate::place::put_eight;
+use crate::place::put_four;
 use crate::place::put_one;
 use crate::place::put_two;
 use charge::charge::Charge;
@@ -86,7 +87,7 @@ fn put_host(bytes: &mut Saved, host: Host)
 fn put_counters(bytes: &mut Saved, counters: Counters)
     ensures { λ _. ⌜ now (bytes .exit) ≡ Put.countersPut counters (now (bytes .entry)) ⌝ }
 {
-    put_two(bytes, AT_RESTS, counters.rests);
+    put_four(bytes, AT_RESTS, counters.rests);
     put_two(bytes, AT_CYCT, counters.cycles.cyct);
     put_eight(bytes, AT_CYCLE_DRAIN, counters.cycles.drain);
 }

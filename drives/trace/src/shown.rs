@@ -111,7 +111,9 @@ mod tests {
         assert_eq!(time(0), "0:00:00.00");
         assert_eq!(time(1), "0:00:05.12");
         assert_eq!(time(16_875), "24:00:00.00");
+        assert_eq!(time(506_250), "720:00:00.00");
         assert_eq!(time(703_125), "1000:00:00.00");
+        assert_eq!(time(3_037_501), "4320:00:05.12");
     }
 
     #[test]

@@ -80,6 +80,7 @@ returns c =
       wrtnac-keeps = refl;
       prst-clears = refl;
       frst-clears = refl;
+      goes-on = refl;
       stops = refl;
       stays = refl;
     }

@@ -5,6 +5,7 @@ use Rattle.configuration.specs.Configuration.{openedMode}
 use Rattle.counters.specs.Counters.{countersAccepted, openedCounters}
 use Rattle.counters.specs.Cycles.{cyclesAccepted, noCycles}
 use Rattle.flags.specs.Byte.{flagsByte, flagsFit, flagsOf}
+use Rattle.form.specs.Form.{laidOut}
 use Rattle.form.specs.Signed.{currentOf, signedPair}
 use Rattle.gauge.specs.Accepted.{accepted}
 use Rattle.gauge.specs.Opening.{opened}
@@ -15,7 +16,7 @@ use Rattle.load.specs.Load.{acceptedAnswer, answerIn, formFits, loaded, loadedC
 use Rattle.registers.specs.Map.{lookUp, register, rows}
 use Rattle.sample.specs.Limits.{zeroOrWithin}
 use Rattle.sample.specs.Sample.{currentAccepted, noSample, sampleAccepted}
-use Rattle.saved.specs.Save.{fieldBytes, fieldsBytes, savedBytes}
+use Rattle.saved.specs.Save.{fieldBytes, savedBytes}
 use Rattle.standby.specs.Standby.{standbyAccepted}
 use Rattle.examples.proofs.proved_forms.Statement.{statement}
 use Rattle.examples.proofs.proved_forms.Tie as tie
@@ -23,7 +24,7 @@ use Rattle.examples.proofs.proved_forms.Tie as tie
 returns : tie.Need-returns
 unfolding chargeAccepted openedCharge openedMode flagsByte flagsFit flagsOf accepted opened runAccepted openedHost zeroOrWithin currentAccepted
     noSample sampleAccepted loadAnswer acceptedAnswer answerIn formFits loaded loadedCharge loadedCounters loadedHost loadedSample rejectedAnswer fieldBytes
-    fieldsBytes savedBytes currentOf signedPair standbyAccepted openedCounters
+    laidOut savedBytes currentOf signedPair standbyAccepted openedCounters
     countersAccepted cyclesAccepted noCycles lookUp register rows
 returns c =
     record {
@@ -56,8 +57,15 @@ returns c =
       form-4-short = refl;
       form-3-cycles = refl;
       form-3-long = refl;
+      form-4-count = refl;
+      length-55 = refl;
+      form-5-most = refl;
+      form-5-taken = refl;
+      form-5-short = refl;
+      form-4-long = refl;
       form-0 = refl;
-      form-5 = refl;
+      form-6 = refl;
+      taken-5 = refl;
       taken-4 = refl;
       taken-3 = refl;
       taken-2 = refl;
@@ -65,6 +73,7 @@ returns c =
       saved-1 = refl;
       saved-2 = refl;
       saved-3 = refl;
+      saved-4 = refl;
     }
 
 pub proved-forms-spec : {M : Type 1} → statement M

@@ -25,6 +25,7 @@ returns c =
       least-temperature = refl;
       most-temperature = refl;
       number-6 = refl;
+      longer-than-a-day = refl;
       longest-rest = refl;
       too-long = refl;
       number-7 = refl;

@@ -14,11 +14,8 @@ cast-byte-at c = search needs
 byte-at-requires : tie.Need-byte-at-requires
 byte-at-requires c κs = search needs
 
-told-number-requires : tie.Need-told-number-requires
-told-number-requires c κs = search needs
-
-told-length-requires : tie.Need-told-length-requires
-told-length-requires c κs = search needs
+told-by-requires : tie.Need-told-by-requires
+told-by-requires c κs = search needs
 
 in-form-requires : tie.Need-in-form-requires
 in-form-requires c κs = search needs
@@ -28,14 +25,12 @@ rejected-requires c κs = search needs
 
 -- what the test of the form was given, and what it says
 tested : (f : tie.After-in-form) →
-    let l = f .before in
-    let n = l .before in
-    let b = n .before in
-    Tested (now (b .before .before .args .bytes)) (b .byte-at .result) (n .told-number .result) (l .told-length .result) (f .in-form .result)
+    let t = f .before in
+    let b = t .before in
+    Tested (now (b .before .before .args .bytes)) (b .byte-at .result) (t .told-by .result) (f .in-form .result)
 tested f =
-    let l = f .before in
-    let n = l .before in
-    record { first = n .before .byte-at .ensures; number = n .told-number .ensures; long = l .told-length .ensures; fit = f .in-form .ensures }
+    let t = f .before in
+    record { first = t .before .byte-at .ensures; tells = t .told-by .ensures; fit = f .in-form .ensures }
 
 returns : tie.Need-returns
 returns c =
@@ -89,8 +84,7 @@ load-spec =
     (tie.spec
     cast-byte-at
     byte-at-requires
-    told-number-requires
-    told-length-requires
+    told-by-requires
     in-form-requires
     rejected-requires
     returns

@@ -5,11 +5,11 @@ use borrow.Author.Needs.{needs}
 use Rattle.load.proofs.load.loaded_counters.Statement.{statement}
 use Rattle.load.proofs.load.loaded_counters.Tie as tie
 
+four-at-requires : tie.Need-four-at-requires
+four-at-requires c κs = search needs
+
 two-at-requires : tie.Need-two-at-requires
 two-at-requires c κs = search needs
-
-two-at-requires-2 : tie.Need-two-at-requires-2
-two-at-requires-2 c κs = search needs
 
 eight-at-requires : tie.Need-eight-at-requires
 eight-at-requires c κs = search needs
@@ -18,7 +18,7 @@ returns : tie.Need-returns
 returns c =
     let p = c .before in
     let q = p .before in
-    counters-is (now (q .before .before .args .bytes)) (q .two-at .ensures) (p .two-at2 .ensures) (c .eight-at .ensures)
+    counters-is (now (q .before .before .args .bytes)) (q .four-at .ensures) (p .two-at .ensures) (c .eight-at .ensures)
 
 pub loaded-counters-spec : {M : Type 1} → statement M
-loaded-counters-spec = tie.close (tie.spec two-at-requires two-at-requires-2 eight-at-requires returns)
+loaded-counters-spec = tie.close (tie.spec four-at-requires two-at-requires eight-at-requires returns)

@@ -6,11 +6,11 @@ use borrow.Author.Needs.{needs}
 use Rattle.saved.proofs.save.put_counters.Statement.{statement}
 use Rattle.saved.proofs.save.put_counters.Tie as tie
 
+put-four-requires : tie.Need-put-four-requires
+put-four-requires c κs = search needs
+
 put-two-requires : tie.Need-put-two-requires
 put-two-requires c κs = search needs
-
-put-two-requires-2 : tie.Need-put-two-requires-2
-put-two-requires-2 c κs = search needs
 
 put-eight-requires : tie.Need-put-eight-requires
 put-eight-requires c κs = search needs
@@ -20,8 +20,7 @@ unfolding countersPut
 returns c =
     let p = c .before .before in
     let q = p .before .before in
-    let x = q .before .before .args .counters in
-    c .put-eight .ensures ∙ ap (numberPut CycleDrain (x .cycles .drain)) (p .put-two2 .ensures ∙ ap (numberPut Cyct (x .cycles .cyct)) (q .put-two .ensures))
+    c .put-eight .ensures ∙ ap (numberPut CycleDrain _) (p .put-two .ensures ∙ ap (numberPut Cyct _) (q .put-four .ensures))
 
 pub put-counters-spec : {M : Type 1} → statement M
-put-counters-spec = tie.close (tie.spec put-two-requires put-two-requires-2 put-eight-requires returns)
+put-counters-spec = tie.close (tie.spec put-four-requires put-two-requires put-eight-requires returns)

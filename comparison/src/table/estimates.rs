@@ -1,0 +1,41 @@
+//! What an estimate can be (paper 02, A4).
+
+use super::Part;
+
+events! {
+    Estimates;
+    EstimateBelowNac "estimate below NAC" Lists Gauges,
+    EstimateAtNac "estimate of NAC, distance 0" Lists Gauges,
+    EstimateAboveNac "estimate above NAC" Lists Gauges,
+    EstimateLeastDistance "estimate 65,535 counts below NAC" Lists Gauges,
+    EstimateGreatestDistance "estimate 65,535 counts above NAC" Lists Gauges,
+    EstimateFloored "estimate that is rounded down" Lists Gauges,
+    EstimateExact "estimate above 0 without a remainder" Lists Gauges,
+    EstimateAtLeastRest "estimate with exactly 422 rest windows" Lists Gauges,
+    EstimateAt65535 "estimate with the count at 65,535" Lists Gauges,
+    EstimateAbove65535 "estimate with a count above 65,535" Lists Gauges,
+    EstimateAtMultiple "estimate with a count that is a multiple of 65,536" Lists Gauges,
+    EstimateLowBytes "estimate with a wider count, 1 to 421 in its low two bytes" Lists Gauges,
+    EstimateAtStop "estimate with the count at 4,294,967,295" Gauges,
+    EstimateWithRun "estimate during a run" Lists Gauges,
+    EstimateFromOlder "estimate on a gauge that came from form 1 or 2" Lists Gauges,
+    EstimateFromForm3 "estimate with a count that came from form 3" Lists Gauges,
+    EstimateFromForm4 "estimate with a count that came from form 4" Lists Gauges,
+    EstimateAtEntry "estimate at an entry's own voltage" Lists Gauges,
+    EstimateBetween "estimate at a voltage between two entries" Lists Gauges,
+    Estimate3000 "estimate at 3,000 mV" Lists Gauges,
+    Estimate4197 "estimate at 4,197 mV" Lists Gauges,
+    Estimate4198 "estimate at 4,198 mV" Lists Gauges,
+    Estimate4199 "estimate at 4,199 mV" Lists Gauges,
+    Estimate4200 "estimate at 4,200 mV" Lists Gauges,
+    Estimate421 "estimate refused 15 with 421 rest windows" Lists Gauges,
+    EstimateUnrested "estimate refused 15 with no rest window" Lists Gauges,
+    EstimateBothWrong "estimate refused 15 with a voltage outside the table" Lists Gauges,
+    EstimateOlderUnrested "estimate refused 15 on a gauge that came from form 1 or 2" Lists Gauges Older,
+    EstimateForm4Unrested "estimate refused 15 on a gauge from form 4 with cycles" Lists Gauges Older,
+    Estimate2999 "estimate refused 16 at 2,999 mV" Lists Gauges,
+    Estimate4201 "estimate refused 16 at 4,201 mV" Lists Gauges,
+    EstimateNegative "estimate refused 16 below 0 mV" Lists Gauges,
+    EstimateWrapped "estimate refused 16 at mV that 16 bits bring into the table" Lists Gauges,
+    EstimateSavedAndVoltage "estimate refused 14 with a voltage outside the table" Damaged Older,
+}

@@ -1,0 +1,42 @@
+//! What a window can be (paper 01, "A window"; the standby current: paper 02, A1).
+
+use super::Part;
+
+events! {
+    Windows;
+    FullByCharge "full by charge" Lists Gauges,
+    FullByTaper "full by taper" Lists Gauges,
+    FullByBoth "full by charge and taper" Lists Gauges,
+    FullAtTheGrain "full by charge at the exact grain" Gauges,
+    TaperMissedByCurrent "taper missed by one unit of current" Lists Gauges,
+    TaperMissedByVoltage "taper missed by one mV" Lists Gauges,
+    FullMissedByLess "full missed by less than a unit's charge" Lists Gauges,
+    ChargeEndsRun "charging ends a run" Lists Gauges,
+    EmptyStop "empty stop" Lists Gauges,
+    EmptyStopWithRun "empty stop that keeps a run" Lists Gauges,
+    EmptyStopAtTheGrain "empty stop at exactly 0 grains" Gauges,
+    EdvfWindow "EDVF window" Lists Gauges,
+    EdvfWindowWithRun "EDVF window that ends a run which E1 would have let teach" Lists Gauges,
+    EmptyStopAndEdvf "empty stop and EDVF window in one" Lists Gauges,
+    QualifiedRun "qualified run" Lists Gauges,
+    EmptyStopAndRun "empty stop and qualified run in one" Lists Gauges,
+    LearnedEighth "learned: the old LMD less its eighth" Lists Gauges,
+    LearnedDrain "learned: what the drain gives" Lists Gauges,
+    LearnedGreatest "learned: at most 65,535" Lists Gauges,
+    E1WithoutRun "E1 without a run" Lists Gauges,
+    E1TooCold "E1 too cold, else qualified" Lists Gauges,
+    E1TooLight "E1 too light, else qualified" Lists Gauges,
+    E1ColdAndLight "E1 too cold and too light" Lists Gauges,
+    PassesInWindow "run passes in a discharging window" Lists Gauges,
+    PassesAtE1 "run passes at E1 and does not teach" Lists Gauges,
+    PassesIdle "run passes in a window without current" Gauges,
+    DrainAtGreatest "drain of exactly 65,535 counts keeps the run" Lists Gauges,
+    WithinDmf "current within DMF" Lists Gauges,
+    Standby "standby current follows" Lists Gauges,
+    StandbyRises "standby current rises by less than a unit" Lists Gauges,
+    StandbyFalls "standby current falls by less than a unit" Lists Gauges,
+    StandbySettledBelow "standby current settled at the load, from below" Lists Gauges,
+    StandbySettledAbove "standby current settled at the load, from above" Lists Gauges,
+    StandbyGreatest "standby current at 32 × S0 stays there" Gauges,
+    StandbyWithoutS0 "discharge with S0 0" Lists Gauges,
+}
