@@ -1,4 +1,4 @@
--- Bytes of an older form load as its fields say. Assumes nothing.
+-- Bytes of a form, older or the newest, load as its fields say. Assumes nothing.
 use mathlib.Core.List.{List}
 use mathlib.Core.Path.{_≡_, sym, ap, _∙_}
 use Prim.Native.Nat.{ℕ}
@@ -12,6 +12,7 @@ use Rattle.numbers.proofs.LittleLaws.{one-is}
 use Rattle.refusals.specs.Refusal as Refusal
 use Rattle.registers.specs.Values.{si}
 use Rattle.standby.proofs.ShownLaws.{shown-whole}
+use Rattle.drive.specs.NewestForm.{NewestReads}
 use Rattle.drive.specs.OlderForms.{Form1Reads, Form1Shows, Form2Reads, Form3Reads, Form4Reads}
 
 -- the gauge of accepted bytes, by the form of their first byte
@@ -36,6 +37,10 @@ form-3-reads bytes e z = read-in bytes 3 e z
 pub form-4-reads : Form4Reads
 unfolding loaded loadedCharge loadedSample loadedHost loadedCounters
 form-4-reads bytes e z = read-in bytes 4 e z
+
+pub newest-reads : NewestReads
+unfolding loaded loadedCharge loadedSample loadedHost loadedCounters
+newest-reads bytes e z = read-in bytes 5 e z
 
 pub form-1-shows : Form1Shows
 form-1-shows bytes e n = ap (λ (g : Gauge). si g) (form-1-reads bytes e n) ∙ shown-whole (numberAt 2 29 bytes)

@@ -1,5 +1,6 @@
 pub mod Claim
 pub mod Drive
+pub mod NewestForm
 pub mod OlderForms
 pub mod Preview
 pub mod Rests

@@ -1,5 +1,6 @@
 // Demand 3 said of the saved bytes and the calls from C. The functions do nothing; their contracts are the claims.
 ghost use Rattle.drive.specs.Claim.{EveryDrive, FromOpening, FromSaved};
+ghost use Rattle.drive.specs.NewestForm.{NewestReads};
 ghost use Rattle.drive.specs.OlderForms.{Form1Reads, Form1Shows, Form2Reads, Form3Reads, Form4Reads};
 ghost use Rattle.drive.specs.Preview.{PreviewOfCopy};
 ghost use Rattle.drive.specs.Rests.{RestCallsOfOne};
@@ -35,6 +36,10 @@ pub fn form_3_reads()
 
 pub fn form_4_reads()
     ensures { λ _. ⌜ Form4Reads ⌝ }
+{}
+
+pub fn newest_reads()
+    ensures { λ _. ⌜ NewestReads ⌝ }
 {}
 
 pub fn converted()

@@ -1,3 +1,4 @@
+pub mod AcceptedRows
 pub mod Bench
 pub mod CycleRows
 pub mod EstimateRows

@@ -7,7 +7,7 @@ use lib.ListN.{set}
 use Rattle.command.specs.Command.{decide}
 use Rattle.command.specs.declared.command.Command.the-variants.{Done, Prst, Frst, Wrtlmd}
 use Rattle.command.specs.declared.command.Decision.the-variants.{Obey, Refused}
-use Rattle.compensation.specs.Compensation.{dcmp, dt}
+use Rattle.compensation.specs.Compensation.{dcmp, dt, minutes}
 use Rattle.configuration.specs.Configuration.{dcgn, dcoff, e1, openedMode}
 use Rattle.configuration.specs.BenchPack.{benchPack}
 use Rattle.grains.specs.Grains.{grainsOfCounts}
@@ -74,6 +74,11 @@ pub record Rows : Type 0 where
   -- the learn limit: 16 × 65,535 / 15 = 69,904 stops at 65,535; 800 − 100 is the least that 800 becomes
   pub learned-most : learned 60_000 (grainsOfCounts 65_535) ≡ 65_535
   pub learned-least : learned 800 0 ≡ 700
+  -- 1,023 − floor(1,023 / 8) = 1,023 − 127; a drain of 840 counts is 896 counts of capacity, one grain less 895, and 841 counts are 897
+  pub learned-896 : learned 1_023 0 ≡ 896
+  pub learned-at : learned 1_023 (grainsOfCounts 840) ≡ 896
+  pub learned-above : learned 1_023 (grainsOfCounts 841) ≡ 897
+  pub learned-floor : learned 1_000 113_399_999_999 ≡ 895
   -- full by the sum: 1,024 × 135,000,000 = 138,240,000,000, with a current above taper
   pub full-short : isFull benchTerms (charging 33) 4_100 138_239_999_999 1_024 ≡ false
   pub full-sum : isFull benchTerms (charging 33) 3_700 138_240_000_000 1_024 ≡ true
@@ -96,6 +101,10 @@ pub record Rows : Type 0 where
   pub artte-3000 : artte (withAr 0xB8 0x0B lineThree) ≡ 17
   pub artte-300 : artte (withAr 0x2C 0x01 lineThree) ≡ 203
   pub artte-0 : artte lineThree ≡ 65_535
+  -- a time of 65,535 minutes, of more and of less
+  pub minutes-65535 : minutes 131_070 2 ≡ 65_535
+  pub minutes-65536 : minutes 131_072 2 ≡ 65_535
+  pub minutes-65534 : minutes 131_069 2 ≡ 65_534
   -- keys: 0x56 obeys WRTLMD with bit 0 alone; 0xA9 obeys the highest of 4, 3 and 1
   pub key-56 : decide 0x56 0x01 1 ≡ Obey Wrtlmd
   pub key-56-higher : decide 0x56 0x03 1 ≡ Refused 10

@@ -1,5 +1,6 @@
 // Computed rows: what the request marks to be proved, its table's examples, and rules that none of those pins. The functions do nothing;
 // their contracts keep the claims in the check.
+ghost use Rattle.examples.specs.AcceptedRows.{AcceptedRows};
 ghost use Rattle.examples.specs.CycleRows.{CycleRows};
 ghost use Rattle.examples.specs.EstimateRows.{EstimateRows};
 ghost use Rattle.examples.specs.Examples.{Examples};
@@ -44,4 +45,8 @@ pub fn proved_estimates()
 
 pub fn proved_cycles()
     ensures { λ _. ⌜ CycleRows ⌝ }
+{}
+
+pub fn proved_accepted()
+    ensures { λ _. ⌜ AcceptedRows ⌝ }
 {}

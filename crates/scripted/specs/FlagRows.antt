@@ -1,0 +1,156 @@
+-- FLAGS and MODE after each thing that touches them. The numbers are the second implementation's (`reference/tests/scripted.rs`). Definitions only;
+-- assumes nothing.
+use mathlib.Core.List.{List, [], _∷_}
+use mathlib.Core.Path.{_≡_}
+use lib.IntN.{pos}
+use Rattle.history.specs.Call.{rest, window, write}
+use Rattle.scripted.specs.Packs.{everySet, keptCharging, noneSet}
+use Rattle.scripted.specs.Script.{Repeated, byte, drawn, flagsAndMode, _of_}
+
+-- c = 0, at any voltage
+abbrev idle : List Repeated
+idle = 1 of window (pos 0) (pos 3_700) (pos 1_192) ∷ []
+
+abbrev idleLow : List Repeated
+idleLow = 1 of window (pos 0) (pos 2_600) (pos 1_192) ∷ []
+
+-- c above 0, short of full, also at a voltage below EDVF
+abbrev charging : List Repeated
+charging = 1 of window (pos 100) (pos 3_700) (pos 1_192) ∷ []
+
+abbrev chargingLow : List Repeated
+chargingLow = 1 of window (pos 100) (pos 2_600) (pos 1_192) ∷ []
+
+-- full by the sum: 11 windows of 39.8 counts
+abbrev fullBySum : List Repeated
+fullBySum = 11 of window (pos 28_011) (pos 3_700) (pos 1_192) ∷ []
+
+-- full by taper: 32 units, twice TAPER, at 4,100 mV
+abbrev fullByTaper : List Repeated
+fullByTaper = 1 of window (pos 32) (pos 4_100) (pos 1_192) ∷ []
+
+-- c below 0, above E1
+abbrev discharging : List Repeated
+discharging = 1 of window (drawn 3_000) (pos 3_600) (pos 1_192) ∷ []
+
+-- an empty stop: 16 windows of 39.8 counts
+abbrev stopping : List Repeated
+stopping = 16 of window (drawn 28_011) (pos 3_600) (pos 1_192) ∷ []
+
+-- at EDVF, 2,800 mV, and one above
+abbrev atEdvf : List Repeated
+atEdvf = 1 of window (drawn 21) (pos 2_800) (pos 1_192) ∷ []
+
+abbrev aboveEdvf : List Repeated
+aboveEdvf = 1 of window (drawn 21) (pos 2_801) (pos 1_192) ∷ []
+
+-- at E1, 3,000 mV: with 21 units at 1,192 a run qualifies, with 20 units or at 1,111 not; and one above
+abbrev atE1 : List Repeated
+atE1 = 1 of window (drawn 21) (pos 3_000) (pos 1_192) ∷ []
+
+abbrev lightAtE1 : List Repeated
+lightAtE1 = 1 of window (drawn 20) (pos 3_000) (pos 1_192) ∷ []
+
+abbrev coldAtE1 : List Repeated
+coldAtE1 = 1 of window (drawn 21) (pos 3_000) (pos 1_111) ∷ []
+
+abbrev aboveE1 : List Repeated
+aboveE1 = 1 of window (drawn 21) (pos 3_001) (pos 1_192) ∷ []
+
+-- a rest
+abbrev resting : List Repeated
+resting = 1 of rest 5 (pos 1_192) ∷ []
+
+-- each command, with every other bit of MODE that it may have beside its own
+abbrev wrtnac : List Repeated
+wrtnac = 1 of write 0x01 (byte 0xFF) ∷ 1 of write 0x00 (byte 0xA9) ∷ []
+
+abbrev done : List Repeated
+done = 1 of write 0x01 (byte 0xDF) ∷ 1 of write 0x00 (byte 0xA9) ∷ []
+
+abbrev prst : List Repeated
+prst = 1 of write 0x01 (byte 0xCF) ∷ 1 of write 0x00 (byte 0xA9) ∷ []
+
+abbrev frst : List Repeated
+frst = 1 of write 0x01 (byte 0xC7) ∷ 1 of write 0x00 (byte 0xA9) ∷ []
+
+abbrev wrtlmd : List Repeated
+wrtlmd = 1 of write 0x01 (byte 0xC5) ∷ 1 of write 0x00 (byte 0x56) ∷ []
+
+abbrev doneAlone : List Repeated
+doneAlone = 1 of write 0x01 (byte 0x10) ∷ 1 of write 0x00 (byte 0xA9) ∷ []
+
+-- a key that is refused
+abbrev notCarried : List Repeated
+notCarried = 1 of write 0x01 (byte 0xFF) ∷ 1 of write 0x00 (byte 0x56) ∷ []
+
+pub record FlagRows : Type 0 where
+  -- from CI, VDQ, EDV1, EDVF and MODE 0xFF
+  pub every-set-idle : flagsAndMode everySet idle ≡ 0x17 ∷ 0xFF ∷ []
+  pub every-set-idle-low : flagsAndMode everySet idleLow ≡ 0x17 ∷ 0xFF ∷ []
+  pub every-set-charging : flagsAndMode everySet charging ≡ 0x90 ∷ 0xFF ∷ []
+  pub every-set-charging-low : flagsAndMode everySet chargingLow ≡ 0x90 ∷ 0xFF ∷ []
+  pub every-set-full-by-sum : flagsAndMode everySet fullBySum ≡ 0x94 ∷ 0xFB ∷ []
+  pub every-set-full-by-taper : flagsAndMode everySet fullByTaper ≡ 0x94 ∷ 0xFB ∷ []
+  pub every-set-discharging : flagsAndMode everySet discharging ≡ 0x17 ∷ 0xFF ∷ []
+  pub every-set-stopping : flagsAndMode everySet stopping ≡ 0x17 ∷ 0xFF ∷ []
+  pub every-set-at-edvf : flagsAndMode everySet atEdvf ≡ 0x13 ∷ 0xFF ∷ []
+  pub every-set-above-edvf : flagsAndMode everySet aboveEdvf ≡ 0x03 ∷ 0xFF ∷ []
+  pub every-set-at-e1 : flagsAndMode everySet atE1 ≡ 0x03 ∷ 0xFF ∷ []
+  pub every-set-light-at-e1 : flagsAndMode everySet lightAtE1 ≡ 0x13 ∷ 0xFF ∷ []
+  pub every-set-cold-at-e1 : flagsAndMode everySet coldAtE1 ≡ 0x13 ∷ 0xFF ∷ []
+  pub every-set-above-e1 : flagsAndMode everySet aboveE1 ≡ 0x17 ∷ 0xFF ∷ []
+  pub every-set-resting : flagsAndMode everySet resting ≡ 0x17 ∷ 0xFF ∷ []
+  pub every-set-wrtnac : flagsAndMode everySet wrtnac ≡ 0x13 ∷ 0xC4 ∷ []
+  pub every-set-done : flagsAndMode everySet done ≡ 0x14 ∷ 0xC0 ∷ []
+  pub every-set-prst : flagsAndMode everySet prst ≡ 0x10 ∷ 0x44 ∷ []
+  pub every-set-frst : flagsAndMode everySet frst ≡ 0x10 ∷ 0x44 ∷ []
+  pub every-set-wrtlmd : flagsAndMode everySet wrtlmd ≡ 0x13 ∷ 0xC4 ∷ []
+  pub every-set-done-alone : flagsAndMode everySet doneAlone ≡ 0x14 ∷ 0x00 ∷ []
+  pub every-set-not-carried : flagsAndMode everySet notCarried ≡ 0x17 ∷ 0xFF ∷ []
+  -- from no flag and MODE 0x00
+  pub none-set-idle : flagsAndMode noneSet idle ≡ 0x00 ∷ 0x00 ∷ []
+  pub none-set-idle-low : flagsAndMode noneSet idleLow ≡ 0x00 ∷ 0x00 ∷ []
+  pub none-set-charging : flagsAndMode noneSet charging ≡ 0x80 ∷ 0x00 ∷ []
+  pub none-set-charging-low : flagsAndMode noneSet chargingLow ≡ 0x80 ∷ 0x00 ∷ []
+  pub none-set-full-by-sum : flagsAndMode noneSet fullBySum ≡ 0x84 ∷ 0x00 ∷ []
+  pub none-set-full-by-taper : flagsAndMode noneSet fullByTaper ≡ 0x84 ∷ 0x00 ∷ []
+  pub none-set-discharging : flagsAndMode noneSet discharging ≡ 0x00 ∷ 0x00 ∷ []
+  pub none-set-stopping : flagsAndMode noneSet stopping ≡ 0x00 ∷ 0x00 ∷ []
+  pub none-set-at-edvf : flagsAndMode noneSet atEdvf ≡ 0x03 ∷ 0x00 ∷ []
+  pub none-set-above-edvf : flagsAndMode noneSet aboveEdvf ≡ 0x02 ∷ 0x00 ∷ []
+  pub none-set-at-e1 : flagsAndMode noneSet atE1 ≡ 0x02 ∷ 0x00 ∷ []
+  pub none-set-light-at-e1 : flagsAndMode noneSet lightAtE1 ≡ 0x02 ∷ 0x00 ∷ []
+  pub none-set-cold-at-e1 : flagsAndMode noneSet coldAtE1 ≡ 0x02 ∷ 0x00 ∷ []
+  pub none-set-above-e1 : flagsAndMode noneSet aboveE1 ≡ 0x00 ∷ 0x00 ∷ []
+  pub none-set-resting : flagsAndMode noneSet resting ≡ 0x00 ∷ 0x00 ∷ []
+  pub none-set-wrtnac : flagsAndMode noneSet wrtnac ≡ 0x00 ∷ 0xC4 ∷ []
+  pub none-set-done : flagsAndMode noneSet done ≡ 0x04 ∷ 0xC0 ∷ []
+  pub none-set-prst : flagsAndMode noneSet prst ≡ 0x00 ∷ 0x44 ∷ []
+  pub none-set-frst : flagsAndMode noneSet frst ≡ 0x10 ∷ 0x44 ∷ []
+  pub none-set-wrtlmd : flagsAndMode noneSet wrtlmd ≡ 0x00 ∷ 0xC4 ∷ []
+  pub none-set-done-alone : flagsAndMode noneSet doneAlone ≡ 0x04 ∷ 0x00 ∷ []
+  pub none-set-not-carried : flagsAndMode noneSet notCarried ≡ 0x00 ∷ 0xFF ∷ []
+  -- from CHGS, CI, VDQ, EDVF and MODE 0x6B
+  pub kept-charging-idle : flagsAndMode keptCharging idle ≡ 0x15 ∷ 0x6B ∷ []
+  pub kept-charging-idle-low : flagsAndMode keptCharging idleLow ≡ 0x15 ∷ 0x6B ∷ []
+  pub kept-charging-charging : flagsAndMode keptCharging charging ≡ 0x90 ∷ 0x6B ∷ []
+  pub kept-charging-charging-low : flagsAndMode keptCharging chargingLow ≡ 0x90 ∷ 0x6B ∷ []
+  pub kept-charging-full-by-sum : flagsAndMode keptCharging fullBySum ≡ 0x94 ∷ 0x6B ∷ []
+  pub kept-charging-full-by-taper : flagsAndMode keptCharging fullByTaper ≡ 0x94 ∷ 0x6B ∷ []
+  pub kept-charging-discharging : flagsAndMode keptCharging discharging ≡ 0x15 ∷ 0x6B ∷ []
+  pub kept-charging-stopping : flagsAndMode keptCharging stopping ≡ 0x15 ∷ 0x6B ∷ []
+  pub kept-charging-at-edvf : flagsAndMode keptCharging atEdvf ≡ 0x13 ∷ 0x6B ∷ []
+  pub kept-charging-above-edvf : flagsAndMode keptCharging aboveEdvf ≡ 0x03 ∷ 0x6B ∷ []
+  pub kept-charging-at-e1 : flagsAndMode keptCharging atE1 ≡ 0x03 ∷ 0x6B ∷ []
+  pub kept-charging-light-at-e1 : flagsAndMode keptCharging lightAtE1 ≡ 0x13 ∷ 0x6B ∷ []
+  pub kept-charging-cold-at-e1 : flagsAndMode keptCharging coldAtE1 ≡ 0x13 ∷ 0x6B ∷ []
+  pub kept-charging-above-e1 : flagsAndMode keptCharging aboveE1 ≡ 0x15 ∷ 0x6B ∷ []
+  pub kept-charging-resting : flagsAndMode keptCharging resting ≡ 0x15 ∷ 0x6B ∷ []
+  pub kept-charging-wrtnac : flagsAndMode keptCharging wrtnac ≡ 0x91 ∷ 0xC4 ∷ []
+  pub kept-charging-done : flagsAndMode keptCharging done ≡ 0x94 ∷ 0xC0 ∷ []
+  pub kept-charging-prst : flagsAndMode keptCharging prst ≡ 0x10 ∷ 0x44 ∷ []
+  pub kept-charging-frst : flagsAndMode keptCharging frst ≡ 0x10 ∷ 0x44 ∷ []
+  pub kept-charging-wrtlmd : flagsAndMode keptCharging wrtlmd ≡ 0x91 ∷ 0xC4 ∷ []
+  pub kept-charging-done-alone : flagsAndMode keptCharging doneAlone ≡ 0x94 ∷ 0x00 ∷ []
+  pub kept-charging-not-carried : flagsAndMode keptCharging notCarried ≡ 0x95 ∷ 0xFF ∷ []
