@@ -130,7 +130,13 @@ fn rows(text: &str) -> Vec<Row> {
             [kind, start] => (kind, start, ""),
             _ => panic!("{name}: {asked}"),
         };
-        out.push(Row { name: name.into(), kind: kind.into(), start: start.into(), script: script.into(), list: list.trim().into() });
+        out.push(Row {
+            name: name.into(),
+            kind: kind.into(),
+            start: start.into(),
+            script: script.into(),
+            list: list.trim().into(),
+        });
     }
     out
 }
