@@ -117,7 +117,7 @@ struct Row {
     list: String,
 }
 
-/// The rows of a file: `pub NAME : KIND START SCRIPT ≡ LIST`, or `printed INPUT ≡ LIST`.
+/// The rows of a file: `pub NAME : KIND START SCRIPT ≡ LIST`, or, of a text, `KIND INPUT ≡ LIST`.
 fn rows(text: &str) -> Vec<Row> {
     let (_, rows) = text.split_once(": Type 0 where ").expect("a record of rows");
     let mut out = Vec::new();
@@ -164,10 +164,10 @@ fn worked_out(kind: &str, start: &[u8], calls: &[Call]) -> Vec<i64> {
     let all = registers(trace.saved());
     let bytes = match kind {
         "registersOf" => all,
-        "savedOf" | "bytesOf" => trace.saved().to_vec(),
+        "savedOf" | "bytesOf" | "convertedOf" => trace.saved().to_vec(),
         "flagsAndMode" => vec![all[0x0A], all[0x01]],
         "numbersOf" | "refusalsOf" | "calledOf" => return numbers,
-        "historyOf" => {
+        "historyOf" | "begunOf" => {
             let run = history.run.unwrap_or(-1);
             let sums = [history.p, history.q as i64, history.k as i64, i64::from(history.l), run];
             let host = [i64::from(history.mode), i64::from(history.ar)];
@@ -182,8 +182,8 @@ fn worked_out(kind: &str, start: &[u8], calls: &[Call]) -> Vec<i64> {
 /// A list as the rows have it.
 fn written(kind: &str, list: &[i64]) -> String {
     let one = |n: &i64| match kind {
-        "historyOf" if *n < 0 => format!("negsuc {}", -n - 1),
-        "historyOf" => format!("pos {n}"),
+        "historyOf" | "begunOf" if *n < 0 => format!("negsuc {}", -n - 1),
+        "historyOf" | "begunOf" => format!("pos {n}"),
         "numbersOf" | "refusalsOf" | "calledOf" => format!("{n}"),
         _ => format!("0x{n:02X}"),
     };
@@ -201,7 +201,7 @@ fn every_row_is_what_this_implementation_gives() {
         for row in rows(text) {
             let start: Vec<u8> = numbers(&starts[&row.start]).into_iter().map(|number| number as u8).collect();
             let list = match row.kind.as_str() {
-                "printed" => bench::output(&start).into_iter().map(i64::from).collect(),
+                "printed" | "fedOf" | "partsOf" => bench::output(&start).into_iter().map(i64::from).collect(),
                 kind => worked_out(kind, &start, &script(&scripts[&row.script])),
             };
             held += 1;

@@ -2,6 +2,7 @@ pub mod CallRows
 pub mod FlagRows
 pub mod KeptRows
 pub mod Packs
+pub mod PartRows
 pub mod RegisterRows
 pub mod Script
 pub mod Scripted

@@ -8,10 +8,12 @@ use Prim.Native.Nat.{ℕ, zero, suc, _<_, _%_}
 use lib.Dec.{eqb}
 use lib.IntN.{ℤ, pos, negsuc}
 use lib.ListN.{length, replicate}
+use Rattle.drive.specs.Claim.{begunIn}
 use Rattle.drive.specs.Drive.{bytesAfter, calledBytes, calledNumber}
+use Rattle.form.specs.Form.{formOf}
 use Rattle.gauge.specs.Opening.{openAnswer}
 use Rattle.gauge.specs.declared.state.Gauge.{Gauge}
-use Rattle.handset.specs.Calls.{openBytes}
+use Rattle.handset.specs.Calls.{convertBytes, openBytes}
 use Rattle.history.specs.After.{after, gaugeAfter, numberOf}
 use Rattle.history.specs.Call.{Byte, Call}
 use Rattle.history.specs.Claim.{begun}
@@ -75,6 +77,10 @@ savedOf start script = savedBytes (after (listed script) (started start))
 abbrev pub bytesOf : List ℕ → List Repeated → List ℕ
 bytesOf start script = bytesAfter (listed script) (startedBytes start)
 
+-- those that a conversion leaves, and the calls after it
+abbrev pub convertedOf : List ℕ → List Repeated → List ℕ
+convertedOf start script = bytesAfter (listed script) (convertBytes start (replicate 55 0xEE))
+
 -- FLAGS and MODE
 abbrev pub flagsAndMode : List ℕ → List Repeated → List ℕ
 flagsAndMode start script =
@@ -92,6 +98,10 @@ kept x =
 
 abbrev pub historyOf : List ℕ → List Repeated → List ℤ
 historyOf start script = kept (afterCalls (listed script) (startedHistory start))
+
+-- the same, begun at what bytes of any form hold
+abbrev pub begunOf : List ℕ → List Repeated → List ℤ
+begunOf start script = kept (afterCalls (listed script) (begunIn (formOf start) start))
 
 -- ---- the number of each call of a script
 

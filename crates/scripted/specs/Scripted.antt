@@ -2,6 +2,7 @@
 use Rattle.scripted.specs.CallRows.{CallRows}
 use Rattle.scripted.specs.FlagRows.{FlagRows}
 use Rattle.scripted.specs.KeptRows.{KeptRows}
+use Rattle.scripted.specs.PartRows.{PartRows}
 use Rattle.scripted.specs.RegisterRows.{RegisterRows}
 use Rattle.scripted.specs.TextRows.{TextRows}
 
@@ -11,3 +12,4 @@ pub record Scripted : Type 0 where
   pub flags : FlagRows
   pub calls : CallRows
   pub text : TextRows
+  pub part : PartRows

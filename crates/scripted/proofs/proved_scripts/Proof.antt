@@ -1,5 +1,10 @@
 -- Each row holds by computation. Assumes nothing.
 use mathlib.Core.Path.{refl}
+use Rattle.bench_feed.specs.Feed as Feed
+use Rattle.bench_feed.specs.Feed.{fedAt, lastOutput, lastOutputAt}
+use Rattle.bench_feed.specs.First.{afterFirst, fedFirst, firstOutput, namesFed}
+use Rattle.bench_feed.specs.Input.{fedAll, printedAt, printedFrom, printedOf}
+use Rattle.bench_feed.specs.Listed.{fedListed, lineOutput}
 use Rattle.bench_feed.specs.Printed.{linesPrinted, listPrinted, printed, sameBytes}
 use Rattle.bench_output.specs.Output.{refusedText, registersText, textOf}
 use Rattle.bench_window.specs.Answer.{answerOutput, lineAnswered}
@@ -7,27 +12,33 @@ use Rattle.bench_window.specs.Shown.{registersOutput}
 use Rattle.charge.specs.Charge.{chargeAccepted, emptied, filled, heldMoved, leaked, moved, openedCharge, runMoved, taught, withoutRun}
 use Rattle.charge.specs.Obeyed.{chargeObeyed, writtenLmd, writtenNac}
 use Rattle.charge.specs.Rest.{rested, restedOnce}
-use Rattle.command.specs.Command.{decide, decide56, decideA9, highestCommandBit, isReset}
+use Rattle.charge.specs.Step.{leakedAtOnce}
+use Rattle.command.specs.Command.{commandOf, decide, decide56, decideA9, highestCommandBit, isReset}
 use Rattle.compensation.specs.Compensation.{adcgn, dcmp, dt, minutes, offsetTerm, rateTerm}
+use Rattle.compensation.specs.Unaged.{dcmpUnaged}
 use Rattle.configuration.specs.Configuration.{dcompTaken, openedMode}
 use Rattle.counters.specs.Counters.{countersAccepted, countersMoved, countersObeyed, countersRested, openedCounters}
 use Rattle.counters.specs.Cycles.{cyclesAccepted, cyclesMoved, cyctAfter, drainWith, noCycles}
 use Rattle.drive.specs.Drive.{bytesAfter, calledBytes, calledNumber}
-use Rattle.estimate.specs.Estimate.{estimateRefusal}
+use Rattle.drive.specs.Update.{bytesAfterSteps, callsOf, stepBytes}
+use Rattle.estimate.specs.Estimate.{distanceAfter, distanceFrom, estimateAfter, estimateRefusal, estimated}
 use Rattle.flags.specs.Byte.{flagsByte, flagsFit, flagsOf}
 use Rattle.flags.specs.Flags.{atEdv1, atEdvf, atTaught, clearedIf, flagsObeyed}
 use Rattle.form.specs.Form.{laidOut}
+use Rattle.form.specs.InNewest.{inNewest, widened}
 use Rattle.form.specs.Signed.{currentOf, signedPair}
 use Rattle.gauge.specs.Accepted.{accepted}
-use Rattle.gauge.specs.Calls.{restAnswer, storedAt, windowAnswer, writeAnswer, writeRefusal, written}
+use Rattle.gauge.specs.Calls.{keyAnswer, restAnswer, storedAt, windowAnswer, writeAnswer, writeRefusal, written}
 use Rattle.gauge.specs.Obey.{decided, obeyed}
 use Rattle.gauge.specs.Opening.{openAnswer, openRefusal, opened}
 use Rattle.gauge.specs.Rest.{rest}
 use Rattle.gauge.specs.Window.{reachedIn, summed, window}
 use Rattle.grains.specs.Leak.{band, leak, leakRate, reached, weight}
 use Rattle.grains.specs.Learning.{learned}
+use Rattle.grains.specs.Rest.{restLeak}
 use Rattle.grains.specs.Run.{drained, runAccepted, unlessPassed}
-use Rattle.handset.specs.Calls.{callBytes, callNumber, lookNumber, openBytes, openNumber}
+use Rattle.handset.specs.Calls.{callBytes, callNumber, convertBytes, convertNumber, lookLeaves, lookNumber, openBytes, openNumber}
+use Rattle.handset.specs.Keep.{hostPlace, keptBytes, keptNumber}
 use Rattle.history.specs.Account.{afterEmptyStop, afterFull, afterRest, afterRestWindow, afterRun, afterSums, afterVoltage, afterWindow, leakNow}
 use Rattle.history.specs.After.{after, gaugeAfter, numberOf}
 use Rattle.history.specs.Claim.{begun}
@@ -40,43 +51,56 @@ use Rattle.host.specs.Host.{commanded, commandsCleared, fullIf, hostObeyed, ini
 use Rattle.lines.specs.Decimal.{decimal, decimalWithin}
 use Rattle.lines.specs.Line.{joined, line, three, words}
 use Rattle.lines.specs.Number.{allDigits, number, ranged, unsigned, valueFrom}
+use Rattle.lines.specs.Reading as Reading
+use Rattle.lines.specs.Reading.{goesOn, readAs, spaced}
 use Rattle.lines.specs.Text.{linesOf}
-use Rattle.load.specs.EveryForm.{loadAnswer}
-use Rattle.load.specs.Load.{acceptedAnswer, answerIn, formFits, loaded, loadedCharge, loadedCounters, loadedHost, loadedSample, rejectedAnswer}
-use Rattle.permille.specs.Table.{inTable}
-use Rattle.preview.specs.Preview.{previewRefusal}
+use Rattle.lines.specs.Word.{digitFed, firstFed, grown, wordFed, wordNumber}
+use Rattle.load.specs.EveryForm.{carriedStandby, heldFits, loadAnswer}
+use Rattle.load.specs.Load.{acceptedAnswer, answerIn, decodedGauge, formFits, loaded, loadedCharge, loadedCounters, loadedHost, loadedSample, ofLength, rejectedAnswer}
+use Rattle.permille.specs.Rule.{rule}
+use Rattle.permille.specs.Table.{inTable, permille}
+use Rattle.preview.specs.Preview as Preview
+use Rattle.preview.specs.Preview.{commandAfter, previewRefusal}
 use Rattle.reached.specs.Ending.{endingOf, mayTeach}
 use Rattle.reached.specs.Full.{isFull}
 use Rattle.reached.specs.Reached.{chargeEnded, chargeReached, filledIf, flagsEnded, reachedBy}
 use Rattle.registers.specs.Map.{lookUp, register, registersFrom, rows}
-use Rattle.registers.specs.Reading.{placeRefusal, readRefusal, replyAfter}
+use Rattle.registers.specs.Reading as Reading′
+use Rattle.registers.specs.Reading.{placeRefusal, readRefusal}
 use Rattle.registers.specs.Times.{artte, stte, tte, ttf}
 use Rattle.registers.specs.Values.{cac, fcac, reduction, rsoc}
+use Rattle.registers.specs.Whole.{allAnswer}
 use Rattle.sample.specs.Current.{charge, counted, discharge}
 use Rattle.sample.specs.Limits.{zeroOrWithin}
 use Rattle.sample.specs.Range.{between, currentInRange, valueBetween}
 use Rattle.sample.specs.Sample.{currentAccepted, noSample, sampleAccepted, sampleReset, sampleRested}
-use Rattle.saved.specs.Save.{fieldBytes, savedBytes}
+use Rattle.saved.specs.Put.{chargePut, countersPut, headed, hostPut, samplePut}
+use Rattle.saved.specs.RoundTrip.{reloadedAnswer}
+use Rattle.saved.specs.Save.{bufferAfter, fieldBytes, putAfter, saveRefusal, savedBytes}
 use Rattle.standby.specs.Standby.{averaged, shown, standbyAccepted, standbyReset}
 use Rattle.scripted.proofs.proved_scripts.Statement.{statement}
 use Rattle.scripted.proofs.proved_scripts.Tie as tie
 
 returns : tie.Need-returns
-unfolding linesPrinted listPrinted printed sameBytes refusedText registersText textOf answerOutput lineAnswered registersOutput chargeAccepted
-    emptied filled heldMoved leaked moved openedCharge runMoved taught withoutRun chargeObeyed writtenLmd writtenNac rested restedOnce decide
-    decide56 decideA9 highestCommandBit isReset adcgn dcmp dt minutes offsetTerm rateTerm dcompTaken openedMode countersAccepted countersMoved
-    countersObeyed countersRested openedCounters cyclesAccepted cyclesMoved cyctAfter drainWith noCycles bytesAfter calledBytes calledNumber
-    estimateRefusal flagsByte flagsFit flagsOf atEdv1 atEdvf atTaught clearedIf flagsObeyed laidOut currentOf signedPair accepted restAnswer
-    storedAt windowAnswer writeAnswer writeRefusal written decided obeyed openAnswer openRefusal opened rest reachedIn summed window band leak
-    leakRate reached weight learned drained runAccepted unlessPassed callBytes callNumber lookNumber openBytes openNumber afterEmptyStop afterFull
-    afterRest afterRestWindow afterRun afterSums afterVoltage afterWindow leakNow after gaugeAfter numberOf begun gains unlessAbove afterCall
-    afterCalls afterCommand afterKey afterWork afterWrite hostAfter openedHistory refusalOf chargeOf countedCurrent qualifies reachesE1 reachesEdvf
-    reachesFull stopsEmpty commanded commandsCleared fullIf hostObeyed initCleared openedHost stored decimal decimalWithin joined line three words
-    allDigits number ranged unsigned valueFrom linesOf loadAnswer acceptedAnswer answerIn formFits loaded loadedCharge loadedCounters loadedHost
-    loadedSample rejectedAnswer inTable previewRefusal endingOf mayTeach isFull chargeEnded chargeReached filledIf flagsEnded reachedBy lookUp
-    register registersFrom rows placeRefusal readRefusal replyAfter artte stte tte ttf cac fcac reduction rsoc charge counted discharge zeroOrWithin
-    between currentInRange valueBetween currentAccepted noSample sampleAccepted sampleReset sampleRested fieldBytes savedBytes averaged shown
-    standbyAccepted standbyReset
+unfolding Feed.fed fedAt lastOutput lastOutputAt afterFirst fedFirst firstOutput namesFed fedAll printedAt printedFrom printedOf fedListed
+    lineOutput linesPrinted listPrinted printed sameBytes refusedText registersText textOf answerOutput lineAnswered registersOutput chargeAccepted
+    emptied filled heldMoved leaked moved openedCharge runMoved taught withoutRun chargeObeyed writtenLmd writtenNac rested restedOnce leakedAtOnce
+    commandOf decide decide56 decideA9 highestCommandBit isReset adcgn dcmp dt minutes offsetTerm rateTerm dcmpUnaged dcompTaken openedMode
+    countersAccepted countersMoved countersObeyed countersRested openedCounters cyclesAccepted cyclesMoved cyctAfter drainWith noCycles bytesAfter
+    calledBytes calledNumber bytesAfterSteps callsOf stepBytes distanceAfter distanceFrom estimateAfter estimateRefusal estimated flagsByte flagsFit
+    flagsOf atEdv1 atEdvf atTaught clearedIf flagsObeyed laidOut inNewest widened currentOf signedPair accepted keyAnswer restAnswer storedAt
+    windowAnswer writeAnswer writeRefusal written decided obeyed openAnswer openRefusal opened rest reachedIn summed window band leak leakRate
+    reached weight learned restLeak drained runAccepted unlessPassed callBytes callNumber convertBytes convertNumber lookLeaves lookNumber openBytes
+    openNumber hostPlace keptBytes keptNumber afterEmptyStop afterFull afterRest afterRestWindow afterRun afterSums afterVoltage afterWindow leakNow
+    after gaugeAfter numberOf begun gains unlessAbove afterCall afterCalls afterCommand afterKey afterWork afterWrite hostAfter openedHistory
+    refusalOf chargeOf countedCurrent qualifies reachesE1 reachesEdvf reachesFull stopsEmpty commanded commandsCleared fullIf hostObeyed initCleared
+    openedHost stored decimal decimalWithin joined line three words allDigits number ranged unsigned valueFrom Reading.fed goesOn readAs spaced
+    linesOf digitFed firstFed grown wordFed wordNumber carriedStandby heldFits loadAnswer acceptedAnswer answerIn decodedGauge formFits loaded
+    loadedCharge loadedCounters loadedHost loadedSample ofLength rejectedAnswer rule inTable permille commandAfter previewRefusal Preview.replyAfter
+    endingOf mayTeach isFull chargeEnded chargeReached filledIf flagsEnded reachedBy lookUp register registersFrom rows placeRefusal readRefusal
+    Reading′.replyAfter artte stte tte ttf cac fcac reduction rsoc allAnswer charge counted discharge zeroOrWithin between currentInRange
+    valueBetween currentAccepted noSample sampleAccepted sampleReset sampleRested chargePut countersPut headed hostPut samplePut reloadedAnswer
+    bufferAfter fieldBytes putAfter saveRefusal savedBytes averaged shown standbyAccepted standbyReset
 returns c =
     record {
       registers = record {
@@ -95,11 +119,21 @@ returns c =
       };
       kept = record {
         kept-discharging-saved = refl;
+        kept-discharging-converted = refl;
+        kept-discharging-begun = refl;
         kept-charging-saved = refl;
         kept-form-1-saved = refl;
+        kept-form-1-converted = refl;
+        kept-form-1-begun = refl;
         kept-form-2-saved = refl;
+        kept-form-2-converted = refl;
+        kept-form-2-begun = refl;
         kept-form-3-saved = refl;
+        kept-form-3-converted = refl;
+        kept-form-3-begun = refl;
         kept-form-4-saved = refl;
+        kept-form-4-converted = refl;
+        kept-form-4-begun = refl;
         kept-discharging-registers = refl;
         kept-discharging-history = refl;
         kept-discharging-one-window = refl;
@@ -209,15 +243,155 @@ returns c =
         estimates-kept = refl;
       };
       text = record {
-        paper-output = refl;
-        odd-output = refl;
-        empty-output = refl;
-        names-output = refl;
-        names-line-output = refl;
-        empty-line-output = refl;
-        longer-output = refl;
-        shorter-output = refl;
-        differing-output = refl;
+        paper-printed = refl;
+        paper-fed = refl;
+        paper-parts = refl;
+        odd-printed = refl;
+        odd-fed = refl;
+        odd-parts = refl;
+        empty-printed = refl;
+        empty-fed = refl;
+        empty-parts = refl;
+        names-printed = refl;
+        names-fed = refl;
+        names-parts = refl;
+        names-line-printed = refl;
+        names-line-fed = refl;
+        names-line-parts = refl;
+        empty-line-printed = refl;
+        empty-line-fed = refl;
+        empty-line-parts = refl;
+        longer-printed = refl;
+        longer-fed = refl;
+        longer-parts = refl;
+        shorter-printed = refl;
+        shorter-fed = refl;
+        shorter-parts = refl;
+        differing-printed = refl;
+        differing-fed = refl;
+        differing-parts = refl;
+      };
+      part = record {
+        number-past = refl;
+        bytes-past = refl;
+        bytes-none = refl;
+        bench-bytes = refl;
+        below-zero = refl;
+        voltage-out = refl;
+        temperature-out = refl;
+        current-out = refl;
+        sum-most = refl;
+        sum-stops = refl;
+        difference-stops = refl;
+        leak-0 = refl;
+        leak-22 = refl;
+        at-once = refl;
+        at-once-passed = refl;
+        unaged = refl;
+        unaged-cold = refl;
+        pair-temp = refl;
+        pair-lmd = refl;
+        pair-first = refl;
+        pair-last = refl;
+        pair-bytes = refl;
+        pair-high = refl;
+        pair-put = refl;
+        all-refused = refl;
+        all-14 = refl;
+        all-0 = refl;
+        all-mode = refl;
+        key-0 = refl;
+        key-held = refl;
+        key-9 = refl;
+        key-kept = refl;
+        save-14 = refl;
+        save-54 = refl;
+        save-56 = refl;
+        save-0 = refl;
+        buffer-full = refl;
+        buffer-54 = refl;
+        buffer-14 = refl;
+        put-54 = refl;
+        put-55 = refl;
+        reload-0 = refl;
+        reload-14 = refl;
+        put-parts = refl;
+        put-parts-charging = refl;
+        told-1 = refl;
+        told-2 = refl;
+        told-3 = refl;
+        told-4 = refl;
+        told-5 = refl;
+        told-0 = refl;
+        units-620 = refl;
+        units-621 = refl;
+        sixteenths-any = refl;
+        carried-1 = refl;
+        carried-2 = refl;
+        decoded-55 = refl;
+        decoded-54 = refl;
+        rejected-14 = refl;
+        rejected-bytes = refl;
+        places-41 = refl;
+        places-43 = refl;
+        places-53 = refl;
+        places-55 = refl;
+        in-newest = refl;
+        open-1 = refl;
+        open-2 = refl;
+        open-13 = refl;
+        open-0 = refl;
+        open-kept = refl;
+        convert-14 = refl;
+        convert-13 = refl;
+        convert-0 = refl;
+        convert-kept = refl;
+        convert-14-kept = refl;
+        window-14 = refl;
+        window-4 = refl;
+        window-14-kept = refl;
+        window-4-kept = refl;
+        kept-13 = refl;
+        kept-4 = refl;
+        kept-4-bytes = refl;
+        kept-0-bytes = refl;
+        place-mode = refl;
+        place-ar-low = refl;
+        place-ar-high = refl;
+        read-0 = refl;
+        read-12 = refl;
+        read-13 = refl;
+        read-14 = refl;
+        read-reply = refl;
+        read-kept = refl;
+        read-14-kept = refl;
+        preview-0 = refl;
+        preview-13 = refl;
+        preview-14 = refl;
+        preview-command = refl;
+        preview-command-kept = refl;
+        preview-command-14 = refl;
+        preview-mode = refl;
+        preview-nac = refl;
+        preview-kept = refl;
+        preview-14-kept = refl;
+        estimate-0 = refl;
+        estimate-15 = refl;
+        estimate-16 = refl;
+        estimate-14 = refl;
+        estimate-counts = refl;
+        estimate-kept = refl;
+        estimate-14-kept = refl;
+        distance = refl;
+        distance-kept = refl;
+        distance-14 = refl;
+        run-at = refl;
+        run-at-none = refl;
+        part-of-learned = refl;
+        counts-held = refl;
+        steps-calls = refl;
+        steps-count = refl;
+        steps-older = refl;
       };
     }
 
