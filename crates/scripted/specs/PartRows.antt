@@ -7,11 +7,13 @@ use mathlib.Core.Path.{_≡_}
 use Prim.Native.Nat.{ℕ}
 use lib.IntN.{pos, negsuc}
 use lib.ListN.{drop, length, replicate, set, take}
+use Rattle.bench_output.specs.declared.output.Output.the-variants.{Refused}
+use Rattle.bench_window.specs.Shown.{registersOutput}
 use Rattle.charge.specs.Step.{leakedAtOnce}
 use Rattle.charge.specs.declared.charge.Charge.{Charge}
 use Rattle.compensation.specs.Unaged.{dcmpUnaged}
 use Rattle.configuration.specs.BenchPack.{benchPack}
-use Rattle.configuration.specs.Configuration.{dcomp, dmfsd, id3, ilmd, islc, pkcfg, sedv1, sedvf, taper, tcomp}
+use Rattle.configuration.specs.Configuration.{dcomp, dcompTaken, dmfsd, id3, ilmd, islc, pkcfg, sedv1, sedvf, taper, tcomp}
 use Rattle.drive.specs.Claim.{countsHeld, partOfLearned, runAt}
 use Rattle.drive.specs.Update.{Step, bytesAfterSteps, callsOf, make, start}
 use Rattle.form.specs.Form.{Flags, Sixteenths, form4, newest}
@@ -34,7 +36,7 @@ use Rattle.registers.specs.Map.{configurationPair, pairAt}
 use Rattle.registers.specs.Reading.{pairBytes}
 use Rattle.registers.specs.Whole.{allAnswer, withPair}
 use Rattle.sample.specs.Current.{noCurrent}
-use Rattle.sample.specs.Range.{current, temperature, voltage}
+use Rattle.sample.specs.Range.{current, currentOf, temperature, voltage}
 use Rattle.saved.specs.Put.{chargePut, countersPut, headed, hostPut, numberPut, samplePut}
 use Rattle.saved.specs.RoundTrip.{reloadedAnswer}
 use Rattle.saved.specs.Save.{bufferAfter, putAfter, saveRefusal, savedBytes}
@@ -45,6 +47,10 @@ use Rattle.scripted.specs.Script.{started}
 -- the ten getters, of any bytes
 abbrev tenOf : List ℕ → List ℕ
 tenOf c = ilmd c ∷ sedvf c ∷ sedv1 c ∷ islc c ∷ dmfsd c ∷ taper c ∷ pkcfg c ∷ id3 c ∷ dcomp c ∷ tcomp c ∷ []
+
+-- the DCOMP that is taken of a pack with DCOMP 0x55
+abbrev takenWith : ℕ → ℕ
+takenWith pkcfg = dcompTaken (set (set benchPack 6 pkcfg) 8 0x55)
 
 -- 3 counts and 17 grains, in a run
 abbrev threeCounts : Charge
@@ -75,6 +81,13 @@ pub record PartRows : Type 0 where
   pub bytes-past : bytesAt 3 1 (7 ∷ 8 ∷ []) ≡ 8 ∷ 0 ∷ 0 ∷ []
   pub bytes-none : tenOf [] ≡ replicate 10 0
   pub bench-bytes : benchPack ≡ bench
+  -- 0x6C is taken with bit 1 of PKCFG alone: 0x01, 0x02, 0x04 and so on to 0x80
+  pub taken : takenWith 0x01 ∷ takenWith 0x02 ∷ takenWith 0x04 ∷ takenWith 0x08 ∷ [] ≡ 0x55 ∷ 0x6C ∷ 0x55 ∷ 0x55 ∷ []
+  pub taken-high : takenWith 0x10 ∷ takenWith 0x20 ∷ takenWith 0x40 ∷ takenWith 0x80 ∷ [] ≡ 0x55 ∷ 0x55 ∷ 0x55 ∷ 0x55 ∷ []
+  -- 0, 1 and −1 by direction and magnitude
+  pub current-0 : currentOf (pos 0) ≡ record { charging = false; magnitude = 0 }
+  pub current-1 : currentOf (pos 1) ≡ record { charging = true; magnitude = 1 }
+  pub drawn-1 : currentOf (negsuc 0) ≡ record { charging = false; magnitude = 1 }
   -- below 0; out of range
   pub below-zero : atLeastZero (negsuc 4) ≡ 0
   pub voltage-out : voltage (pos 4_501) ≡ 0
@@ -104,6 +117,8 @@ pub record PartRows : Type 0 where
   pub all-14 : (allAnswer refused) .number ≡ 14
   pub all-0 : (allAnswer (started keptDischarging)) .number ≡ 0
   pub all-mode : take 2 ((allAnswer (started keptDischarging)) .bytes) ≡ 0x00 ∷ 0xDA ∷ []
+  -- what the bench program prints of a rejected gauge
+  pub shown-14 : registersOutput refused ≡ Refused 14
   -- ---- a key at CTRL of an accepted gauge: MODE 0xFF obeys WRTNAC of AR 700; MODE 0x00 is 9
   pub key-0 : (keyAnswer (started everySet) 0xA9) .number ≡ 0
   pub key-held : (keyAnswer (started everySet) 0xA9) .gauge .charge .held ≡ 94_500_000_000

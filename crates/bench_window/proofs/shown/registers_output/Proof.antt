@@ -1,5 +1,5 @@
--- The six bytes are the reply that `read` promises, and each pair is made of its two. Assumes nothing.
-use Rattle.bench_window.proofs.ShownLaws.{registers-are}
+-- The six bytes are the reply that `read` promises, and each pair is made of its two; a number of the read is printed. Assumes nothing.
+use Rattle.bench_window.proofs.ShownLaws.{number-is, registers-are}
 use borrow.Author.Needs.{needs}
 use Rattle.bench_window.proofs.shown.registers_output.Statement.{statement}
 use Rattle.bench_window.proofs.shown.registers_output.Tie as tie
@@ -9,6 +9,9 @@ slice-aggregate-read c = search needs
 
 read-requires : tie.Need-read-requires
 read-requires c κs = search needs
+
+returns : tie.Need-returns
+returns c = number-is _ _ (c .before .before .read .ensures .0) (c .if1 .taken)
 
 array-read-pair-of : tie.Need-array-read-pair-of
 array-read-pair-of c = search needs
@@ -28,16 +31,18 @@ array-read-pair-of-4 c = search needs
 pair-of-requires-2 : tie.Need-pair-of-requires-2
 pair-of-requires-2 c κs = search needs
 
-array-read-t22 : tie.Need-array-read-t22
-array-read-t22 c = search needs
+array-read-t23 : tie.Need-array-read-t23
+array-read-t23 c = search needs
 
-array-read-t25 : tie.Need-array-read-t25
-array-read-t25 c = search needs
+array-read-t26 : tie.Need-array-read-t26
+array-read-t26 c = search needs
 
-returns : tie.Need-returns
-returns c =
+returns-2 : tie.Need-returns-2
+returns-2 c =
     let nac = c .before in
-    registers-are _ _ _ _ (nac .before .before .read .ensures .1) (nac .pair-of .ensures) (c .pair-of2 .ensures)
+    let tested = nac .before in
+    let called = tested .before .before in
+    registers-are _ _ (called .read .ensures .0) (tested .if1 .left) _ _ _ (called .read .ensures .1) (nac .pair-of .ensures) (c .pair-of2 .ensures)
 
 pub registers-output-spec : {M : Type 1} → statement M
 registers-output-spec =
@@ -45,12 +50,13 @@ registers-output-spec =
     (tie.spec
     slice-aggregate-read
     read-requires
+    returns
     array-read-pair-of
     array-read-pair-of-2
     pair-of-requires
     array-read-pair-of-3
     array-read-pair-of-4
     pair-of-requires-2
-    array-read-t22
-    array-read-t25
-    returns)
+    array-read-t23
+    array-read-t26
+    returns-2)
