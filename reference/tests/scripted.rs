@@ -8,6 +8,7 @@ use std::path::Path;
 use reference::bench;
 use reference::calls;
 use reference::history::Call;
+use reference::saved;
 use reference::trace::Trace;
 
 /// A file of definitions in one line, without comments and `use` lines.
@@ -167,6 +168,10 @@ fn worked_out(kind: &str, start: &[u8], calls: &[Call]) -> Vec<i64> {
         "savedOf" | "bytesOf" | "convertedOf" => trace.saved().to_vec(),
         "flagsAndMode" => vec![all[0x0A], all[0x01]],
         "numbersOf" | "refusalsOf" | "calledOf" => return numbers,
+        "chargeOf" => {
+            let gauge = saved::load(trace.saved()).expect("a gauge");
+            return vec![gauge.h, i64::from(gauge.lmd), gauge.dcr];
+        }
         "historyOf" | "begunOf" => {
             let run = history.run.unwrap_or(-1);
             let sums = [history.p, history.q as i64, history.k as i64, i64::from(history.l), run];
@@ -184,7 +189,7 @@ fn written(kind: &str, list: &[i64]) -> String {
     let one = |n: &i64| match kind {
         "historyOf" | "begunOf" if *n < 0 => format!("negsuc {}", -n - 1),
         "historyOf" | "begunOf" => format!("pos {n}"),
-        "numbersOf" | "refusalsOf" | "calledOf" => format!("{n}"),
+        "numbersOf" | "refusalsOf" | "calledOf" | "chargeOf" => format!("{n}"),
         _ => format!("0x{n:02X}"),
     };
     list.iter().map(|n| one(n) + " ∷ ").collect::<String>() + "[]"

@@ -4,7 +4,7 @@ use mathlib.Core.Path.{_≡_}
 use Prim.Native.Nat.{ℕ, zero, suc}
 use lib.IntN.{pos, negsuc}
 use lib.ListN.{set}
-use Rattle.compensation.specs.Compensation.{dcmp, rateTerm}
+use Rattle.compensation.specs.Compensation.{ceilingOf, dcmp, offsetTerm, rateTerm}
 use Rattle.configuration.specs.BenchPack.{benchPack}
 use Rattle.counters.specs.Cycles.{cyclesMoved, noCycles}
 use Rattle.counters.specs.declared.cycles.Cycles.{Cycles}
@@ -106,6 +106,15 @@ pub record CycleRows : Type 0 where
   pub gaf-2 : dcmp (set benchPack 7 0xFE) 3_000 1_192 85 ≡ 222
   -- the greatest first term
   pub greatest : rateTerm greatestPack 65_535 1_012 65_535 ≡ 2_689_602_566_261_820
+  -- no offset, DCOFF being 0: 2,565,004,888.8 × 2^20
+  pub greatest-dcmp : dcmp greatestPack 65_535 1_012 65_535 ≡ 2_565_004_889
+  -- 131,072 × 13 × 4 × 4
+  pub offset : offsetTerm benchPack ≡ 27_262_976
+  -- a ceiling, of a fraction that is whole, of one 2^20th more and less
+  pub ceiling-whole : ceilingOf 1_048_576 1_048_576 ≡ 1
+  pub ceiling-more : ceilingOf 1_048_577 1_048_576 ≡ 2
+  pub ceiling-least : ceilingOf 1 1_048_576 ≡ 1
+  pub ceiling-0 : ceilingOf 0 1_048_576 ≡ 0
   -- CYCT 79 gives quotient 4, 32 + 24 = 56: 279,552,000 less 27,262,976 is 240.6 × 2^20. NAC is 1,019 in both; the new cell has DCMP 127
   pub old-cyct : oldCell .counters .cycles .cyct ≡ 79
   pub old-cac : cac oldCell ≡ 778

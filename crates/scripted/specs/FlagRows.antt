@@ -1,11 +1,11 @@
--- FLAGS and MODE after each thing that touches them. The numbers are the second implementation's (`reference/tests/scripted.rs`). Definitions only;
+-- FLAGS and MODE after each thing that touches them, and h, LMD and DCR. The numbers are the second implementation's (`reference/tests/scripted.rs`). Definitions only;
 -- assumes nothing.
 use mathlib.Core.List.{List, [], _∷_}
 use mathlib.Core.Path.{_≡_}
 use lib.IntN.{pos}
 use Rattle.history.specs.Call.{rest, window, write}
-use Rattle.scripted.specs.Packs.{everySet, keptCharging, noneSet}
-use Rattle.scripted.specs.Script.{Repeated, byte, drawn, flagsAndMode, _of_}
+use Rattle.scripted.specs.Packs.{everySet, keptCharging, longestRun, noneSet}
+use Rattle.scripted.specs.Script.{Repeated, byte, chargeOf, drawn, flagsAndMode, _of_}
 
 -- c = 0, at any voltage
 abbrev idle : List Repeated
@@ -56,6 +56,11 @@ coldAtE1 = 1 of window (drawn 21) (pos 3_000) (pos 1_111) ∷ []
 
 abbrev aboveE1 : List Repeated
 aboveE1 = 1 of window (drawn 21) (pos 3_001) (pos 1_192) ∷ []
+
+-- in one window an empty stop and a run that qualifies
+abbrev stoppingAtE1 : List Repeated
+stoppingAtE1 =
+    15 of window (drawn 28_011) (pos 3_600) (pos 1_192) ∷ 1 of window (drawn 28_011) (pos 3_000) (pos 1_192) ∷ []
 
 -- a rest
 abbrev resting : List Repeated
@@ -108,6 +113,7 @@ pub record FlagRows : Type 0 where
   pub every-set-wrtlmd : flagsAndMode everySet wrtlmd ≡ 0x13 ∷ 0xC4 ∷ []
   pub every-set-done-alone : flagsAndMode everySet doneAlone ≡ 0x14 ∷ 0x00 ∷ []
   pub every-set-not-carried : flagsAndMode everySet notCarried ≡ 0x17 ∷ 0xFF ∷ []
+  pub every-set-stopping-at-e1 : flagsAndMode everySet stoppingAtE1 ≡ 0x03 ∷ 0xFF ∷ []
   -- from no flag and MODE 0x00
   pub none-set-idle : flagsAndMode noneSet idle ≡ 0x00 ∷ 0x00 ∷ []
   pub none-set-idle-low : flagsAndMode noneSet idleLow ≡ 0x00 ∷ 0x00 ∷ []
@@ -154,3 +160,55 @@ pub record FlagRows : Type 0 where
   pub kept-charging-wrtlmd : flagsAndMode keptCharging wrtlmd ≡ 0x91 ∷ 0xC4 ∷ []
   pub kept-charging-done-alone : flagsAndMode keptCharging doneAlone ≡ 0x94 ∷ 0x00 ∷ []
   pub kept-charging-not-carried : flagsAndMode keptCharging notCarried ≡ 0x95 ∷ 0xFF ∷ []
+  -- h, LMD and DCR: from 600 counts and 5 grains of 1,024 and a drain of 900 counts, and without a run
+  pub every-set-idle-charge : chargeOf everySet idle ≡ 80_999_995_205 ∷ 1_024 ∷ 121_500_004_800 ∷ []
+  pub every-set-idle-low-charge : chargeOf everySet idleLow ≡ 80_999_995_205 ∷ 1_024 ∷ 121_500_004_800 ∷ []
+  pub every-set-charging-charge : chargeOf everySet charging ≡ 81_019_195_205 ∷ 1_024 ∷ 0 ∷ []
+  pub every-set-charging-low-charge : chargeOf everySet chargingLow ≡ 81_019_195_205 ∷ 1_024 ∷ 0 ∷ []
+  pub every-set-full-by-sum-charge : chargeOf everySet fullBySum ≡ 138_240_000_000 ∷ 1_024 ∷ 0 ∷ []
+  pub every-set-full-by-taper-charge : chargeOf everySet fullByTaper ≡ 138_240_000_000 ∷ 1_024 ∷ 0 ∷ []
+  pub every-set-discharging-charge : chargeOf everySet discharging ≡ 80_423_995_205 ∷ 1_024 ∷ 122_076_004_800 ∷ []
+  pub every-set-stopping-charge : chargeOf everySet stopping ≡ 0 ∷ 1_024 ∷ 207_549_830_496 ∷ []
+  pub every-set-at-edvf-charge : chargeOf everySet atEdvf ≡ 0 ∷ 1_024 ∷ 0 ∷ []
+  pub every-set-above-edvf-charge : chargeOf everySet aboveEdvf ≡ 8_100_000_000 ∷ 960 ∷ 0 ∷ []
+  pub every-set-at-e1-charge : chargeOf everySet atE1 ≡ 8_100_000_000 ∷ 960 ∷ 0 ∷ []
+  pub every-set-light-at-e1-charge : chargeOf everySet lightAtE1 ≡ 80_996_155_205 ∷ 1_024 ∷ 0 ∷ []
+  pub every-set-cold-at-e1-charge : chargeOf everySet coldAtE1 ≡ 80_995_966_805 ∷ 1_024 ∷ 0 ∷ []
+  pub every-set-above-e1-charge : chargeOf everySet aboveE1 ≡ 80_995_963_205 ∷ 1_024 ∷ 121_504_036_800 ∷ []
+  pub every-set-resting-charge : chargeOf everySet resting ≡ 80_999_976_037 ∷ 1_024 ∷ 121_500_023_968 ∷ []
+  pub every-set-wrtnac-charge : chargeOf everySet wrtnac ≡ 94_500_000_000 ∷ 1_024 ∷ 0 ∷ []
+  pub every-set-done-charge : chargeOf everySet done ≡ 138_240_000_000 ∷ 1_024 ∷ 0 ∷ []
+  pub every-set-prst-charge : chargeOf everySet prst ≡ 81_000_000_005 ∷ 1_024 ∷ 0 ∷ []
+  pub every-set-frst-charge : chargeOf everySet frst ≡ 0 ∷ 1_024 ∷ 0 ∷ []
+  pub every-set-wrtlmd-charge : chargeOf everySet wrtlmd ≡ 81_000_000_005 ∷ 700 ∷ 0 ∷ []
+  pub every-set-done-alone-charge : chargeOf everySet doneAlone ≡ 138_240_000_000 ∷ 1_024 ∷ 0 ∷ []
+  pub every-set-not-carried-charge : chargeOf everySet notCarried ≡ 81_000_000_005 ∷ 1_024 ∷ 121_500_000_000 ∷ []
+  pub none-set-idle-charge : chargeOf noneSet idle ≡ 80_999_995_205 ∷ 1_024 ∷ 0 ∷ []
+  pub none-set-idle-low-charge : chargeOf noneSet idleLow ≡ 80_999_995_205 ∷ 1_024 ∷ 0 ∷ []
+  pub none-set-charging-charge : chargeOf noneSet charging ≡ 81_019_195_205 ∷ 1_024 ∷ 0 ∷ []
+  pub none-set-charging-low-charge : chargeOf noneSet chargingLow ≡ 81_019_195_205 ∷ 1_024 ∷ 0 ∷ []
+  pub none-set-full-by-sum-charge : chargeOf noneSet fullBySum ≡ 138_240_000_000 ∷ 1_024 ∷ 0 ∷ []
+  pub none-set-full-by-taper-charge : chargeOf noneSet fullByTaper ≡ 138_240_000_000 ∷ 1_024 ∷ 0 ∷ []
+  pub none-set-discharging-charge : chargeOf noneSet discharging ≡ 80_423_995_205 ∷ 1_024 ∷ 0 ∷ []
+  pub none-set-stopping-charge : chargeOf noneSet stopping ≡ 0 ∷ 1_024 ∷ 0 ∷ []
+  pub none-set-at-edvf-charge : chargeOf noneSet atEdvf ≡ 0 ∷ 1_024 ∷ 0 ∷ []
+  pub none-set-above-edvf-charge : chargeOf noneSet aboveEdvf ≡ 80_995_963_205 ∷ 1_024 ∷ 0 ∷ []
+  pub none-set-at-e1-charge : chargeOf noneSet atE1 ≡ 80_995_963_205 ∷ 1_024 ∷ 0 ∷ []
+  pub none-set-light-at-e1-charge : chargeOf noneSet lightAtE1 ≡ 80_996_155_205 ∷ 1_024 ∷ 0 ∷ []
+  pub none-set-cold-at-e1-charge : chargeOf noneSet coldAtE1 ≡ 80_995_966_805 ∷ 1_024 ∷ 0 ∷ []
+  pub none-set-above-e1-charge : chargeOf noneSet aboveE1 ≡ 80_995_963_205 ∷ 1_024 ∷ 0 ∷ []
+  pub none-set-resting-charge : chargeOf noneSet resting ≡ 80_999_976_037 ∷ 1_024 ∷ 0 ∷ []
+  pub none-set-wrtnac-charge : chargeOf noneSet wrtnac ≡ 94_500_000_000 ∷ 1_024 ∷ 0 ∷ []
+  pub none-set-done-charge : chargeOf noneSet done ≡ 138_240_000_000 ∷ 1_024 ∷ 0 ∷ []
+  pub none-set-prst-charge : chargeOf noneSet prst ≡ 81_000_000_005 ∷ 1_024 ∷ 0 ∷ []
+  pub none-set-frst-charge : chargeOf noneSet frst ≡ 0 ∷ 1_024 ∷ 0 ∷ []
+  pub none-set-wrtlmd-charge : chargeOf noneSet wrtlmd ≡ 81_000_000_005 ∷ 700 ∷ 0 ∷ []
+  pub none-set-done-alone-charge : chargeOf noneSet doneAlone ≡ 138_240_000_000 ∷ 1_024 ∷ 0 ∷ []
+  pub none-set-not-carried-charge : chargeOf noneSet notCarried ≡ 81_000_000_005 ∷ 1_024 ∷ 0 ∷ []
+  pub every-set-stopping-at-e1-charge : chargeOf everySet stoppingAtE1 ≡ 13_770_000_000 ∷ 1_639 ∷ 0 ∷ []
+  -- a run that passes 65,535 counts is over, and teaches nothing in the same window
+  pub longest-run-at-e1 : flagsAndMode longestRun atE1 ≡ 0x13 ∷ 0xFF ∷ []
+  pub longest-run-at-e1-charge : chargeOf longestRun atE1 ≡ 80_995_963_205 ∷ 1_024 ∷ 0 ∷ []
+  pub longest-run-discharging-charge : chargeOf longestRun discharging ≡ 80_423_995_205 ∷ 1_024 ∷ 0 ∷ []
+  pub longest-run-resting : flagsAndMode longestRun resting ≡ 0x13 ∷ 0xFF ∷ []
+  pub longest-run-resting-charge : chargeOf longestRun resting ≡ 80_999_976_037 ∷ 1_024 ∷ 0 ∷ []

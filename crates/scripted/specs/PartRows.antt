@@ -9,8 +9,11 @@ use lib.IntN.{pos, negsuc}
 use lib.ListN.{drop, length, replicate, set, take}
 use Rattle.bench_output.specs.declared.output.Output.the-variants.{Refused}
 use Rattle.bench_window.specs.Shown.{registersOutput}
+use Rattle.charge.specs.Charge.{emptyStop}
 use Rattle.charge.specs.Step.{leakedAtOnce}
 use Rattle.charge.specs.declared.charge.Charge.{Charge}
+use Rattle.command.specs.Command.{commandOf, highestCommandBit}
+use Rattle.command.specs.declared.command.Decision.the-variants as Decision
 use Rattle.compensation.specs.Unaged.{dcmpUnaged}
 use Rattle.configuration.specs.BenchPack.{benchPack}
 use Rattle.configuration.specs.Configuration.{dcomp, dcompTaken, dmfsd, id3, ilmd, islc, pkcfg, sedv1, sedvf, taper, tcomp}
@@ -102,9 +105,17 @@ pub record PartRows : Type 0 where
   pub leak-22 : restLeak 4 2 405_000_017 ≡ 22
   pub at-once : leakedAtOnce 18 threeCounts ≡ record { held = 404_999_999; lmd = 1_024; run = record { vdq = true; dcr = 23 } }
   pub at-once-passed : leakedAtOnce 8_847_225_000_000 threeCounts ≡ record { held = 0; lmd = 1_024; run = record { vdq = false; dcr = 0 } }
+  -- an empty stop: a unit draws 192,000 grains; no current and a charging one never stop
+  pub stop-at : emptyStop (currentOf (negsuc 0)) 192_000 ≡ true
+  pub stop-above : emptyStop (currentOf (negsuc 0)) 192_001 ≡ false
+  pub stop-none : emptyStop noCurrent 0 ≡ false
+  pub stop-charging : emptyStop (currentOf (pos 1)) 0 ≡ false
   -- paper 01's compensation, at 1,192 and in the cold at 1,012
   pub unaged : dcmpUnaged benchPack 3_000 1_192 ≡ 127
   pub unaged-cold : dcmpUnaged benchPack 3_000 1_012 ≡ 365
+  -- the greatest current, DCGN, DCOFF, ILMD and TCGN, TOFF 7, at 1,012: 65,535 × 31 × (128 + 31 × 108) = 7,061,789,460, less 4,096 × 31 × 7 × 255 =
+  -- 226,652,160, is 208,591.8 × 32,768
+  pub unaged-greatest : dcmpUnaged (set (set (set benchPack 0 0xFF) 8 0xFF) 9 0xFF) 65_535 1_012 ≡ 208_592
   -- ---- the registers in pairs: TEMP 1,101, LMD 0xA12D; 0x76 and 0x77, 0x7E and 0x7F
   pub pair-temp : pairAt (started keptDischarging) 3 ≡ 1_101
   pub pair-lmd : pairAt (started keptDischarging) 7 ≡ 0xA12D
@@ -119,6 +130,9 @@ pub record PartRows : Type 0 where
   pub all-mode : take 2 ((allAnswer (started keptDischarging)) .bytes) ≡ 0x00 ∷ 0xDA ∷ []
   -- what the bench program prints of a rejected gauge
   pub shown-14 : registersOutput refused ≡ Refused 14
+  -- no command bit, and no command
+  pub no-bit : highestCommandBit 0xC4 ≡ 8
+  pub no-command : commandOf (Decision.Refused 9) ≡ 0
   -- ---- a key at CTRL of an accepted gauge: MODE 0xFF obeys WRTNAC of AR 700; MODE 0x00 is 9
   pub key-0 : (keyAnswer (started everySet) 0xA9) .number ≡ 0
   pub key-held : (keyAnswer (started everySet) 0xA9) .gauge .charge .held ≡ 94_500_000_000

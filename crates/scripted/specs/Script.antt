@@ -8,6 +8,7 @@ use Prim.Native.Nat.{ℕ, zero, suc, _<_, _%_}
 use lib.Dec.{eqb}
 use lib.IntN.{ℤ, pos, negsuc}
 use lib.ListN.{length, replicate}
+use Rattle.charge.specs.declared.charge.Charge.{Charge}
 use Rattle.drive.specs.Claim.{begunIn}
 use Rattle.drive.specs.Drive.{bytesAfter, calledBytes, calledNumber}
 use Rattle.form.specs.Form.{formOf}
@@ -85,6 +86,13 @@ convertedOf start script = bytesAfter (listed script) (convertBytes start (repli
 abbrev pub flagsAndMode : List ℕ → List Repeated → List ℕ
 flagsAndMode start script =
     register (after (listed script) (started start)) 0x0A ∷ register (after (listed script) (started start)) 0x01 ∷ []
+
+-- h, LMD and DCR
+abbrev charges : Charge → List ℕ
+charges x = x .held ∷ x .lmd ∷ x .run .dcr ∷ []
+
+abbrev pub chargeOf : List ℕ → List Repeated → List ℕ
+chargeOf start script = charges ((after (listed script) (started start)) .charge)
 
 -- the history: P, Q, K, L, R or −1 without a run, MODE, AR, rest windows, cycles and their drain
 abbrev runNumber : Option ℕ → ℤ
