@@ -18,6 +18,7 @@ use Rattle.compensation.specs.Unaged.{dcmpUnaged}
 use Rattle.configuration.specs.BenchPack.{benchPack}
 use Rattle.configuration.specs.Configuration.{dcomp, dcompTaken, dmfsd, id3, ilmd, islc, pkcfg, sedv1, sedvf, taper, tcomp}
 use Rattle.drive.specs.Claim.{countsHeld, partOfLearned, runAt}
+use Rattle.drive.specs.OlderForms.{counts, gaugeOf41}
 use Rattle.drive.specs.Update.{Step, bytesAfterSteps, callsOf, make, start}
 use Rattle.form.specs.Form.{Flags, Sixteenths, form4, newest}
 use Rattle.form.specs.InNewest.{inNewest, placesOf}
@@ -234,6 +235,9 @@ pub record PartRows : Type 0 where
   pub run-at-none : runAt newest noneSet ≡ record { vdq = false; dcr = 0 }
   pub part-of-learned : partOfLearned (pos 3_700) (begun (started keptDischarging)) ≡ 14_441
   pub counts-held : countsHeld (begun (started keptDischarging)) ≡ 9_266
+  -- the places of the first 41 bytes: SI 0x2357 and 281, the count, CYCT and the drain as they stand in the bytes of `Packs`
+  pub places-41-drawn : savedBytes (gaugeOf41 keptForm4 0x2357 (counts 0xCDEF 0x0153 0x0468_ACE0_2468)) ≡ form4Saved
+  pub places-41-charged : savedBytes (gaugeOf41 keptCharging 281 (counts 0x0102_0304 0x0B0D 0x12_3456_789A)) ≡ keptCharging
   -- two windows of rest and a start between them: the count is two more, 0x04 and 0x03 0x02 0x01 behind it; c is 0, CHGS clear
   pub steps-calls : length (callsOf steps) ≡ 2
   pub steps-count : take 4 (drop 41 (bytesAfterSteps steps keptCharging)) ≡ 0x06 ∷ 0x03 ∷ 0x02 ∷ 0x01 ∷ []
