@@ -1,10 +1,10 @@
--- FLAGS and MODE after each thing that touches them, and h, LMD and DCR. The numbers are the second implementation's (`reference/tests/scripted.rs`). Definitions only;
--- assumes nothing.
+-- FLAGS and MODE after each thing that touches them, and h, LMD and DCR. The numbers are the second implementation's
+-- (`reference/tests/scripted.rs`). Definitions only; assumes nothing.
 use mathlib.Core.List.{List, [], _∷_}
 use mathlib.Core.Path.{_≡_}
 use lib.IntN.{pos}
 use Rattle.history.specs.Call.{rest, window, write}
-use Rattle.scripted.specs.Packs.{everySet, keptCharging, longestRun, noneSet}
+use Rattle.scripted.specs.Packs.{everySet, keptCharging, keptDischarging, longestRun, noneSet}
 use Rattle.scripted.specs.Script.{Repeated, byte, chargeOf, drawn, flagsAndMode, _of_}
 
 -- c = 0, at any voltage
@@ -212,3 +212,8 @@ pub record FlagRows : Type 0 where
   pub longest-run-discharging-charge : chargeOf longestRun discharging ≡ 80_423_995_205 ∷ 1_024 ∷ 0 ∷ []
   pub longest-run-resting : flagsAndMode longestRun resting ≡ 0x13 ∷ 0xFF ∷ []
   pub longest-run-resting-charge : chargeOf longestRun resting ≡ 80_999_976_037 ∷ 1_024 ∷ 0 ∷ []
+  -- WRTNAC and WRTLMD where AR is above LMD, 3,287 and 2,003 counts, and where it is below NAC, 5,433 and 9,266
+  pub kept-charging-wrtnac-charge : chargeOf keptCharging wrtnac ≡ 270_405_000_000 ∷ 2_003 ∷ 0 ∷ []
+  pub kept-charging-wrtlmd-charge : chargeOf keptCharging wrtlmd ≡ 229_675_757_877 ∷ 3_287 ∷ 0 ∷ []
+  pub kept-discharging-wrtnac-charge : chargeOf keptDischarging wrtnac ≡ 733_455_000_000 ∷ 41_261 ∷ 0 ∷ []
+  pub kept-discharging-wrtlmd-charge : chargeOf keptDischarging wrtlmd ≡ 733_455_000_000 ∷ 5_433 ∷ 0 ∷ []

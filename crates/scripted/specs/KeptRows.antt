@@ -1,5 +1,6 @@
--- Saved bytes with every field not 0, of each form: what they are saved as and converted to, the history begun at them, what the registers show of them, and the bytes after a window and after a
--- rest. The numbers are the second implementation's (`reference/tests/scripted.rs`). Definitions only; assumes nothing.
+-- Saved bytes with every field not 0, of each form: what they are saved as and converted to, the history begun at them, what the registers show of
+-- them, and the bytes after a window and after a rest. The numbers are the second implementation's (`reference/tests/scripted.rs`). Definitions only;
+-- assumes nothing.
 use mathlib.Core.List.{List, [], _∷_}
 use mathlib.Core.Path.{_≡_}
 use Prim.Native.Nat.{ℕ}

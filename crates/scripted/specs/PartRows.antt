@@ -1,6 +1,6 @@
--- What no drive shows: values that no gauge has, bytes past the end of a list, what a call from C hands out and leaves where it is refused, and the parts that
--- saving, loading and the claims are put together from. Each number by hand, from the papers and from the bytes of `Packs`. Definitions only; assumes
--- nothing.
+-- What no drive shows: values that no gauge has, bytes past the end of a list, what a call from C hands out and leaves where it is refused, and the
+-- parts that saving, loading and the claims are put together from. Each number by hand, from the papers and from the bytes of `Packs`. Definitions
+-- only; assumes nothing.
 use mathlib.Core.Bool.{true, false}
 use mathlib.Core.List.{List, [], _∷_, _++_}
 use mathlib.Core.Path.{_≡_}

@@ -1,7 +1,7 @@
--- All 128 registers, the 55 saved bytes that the calls from C leave, and the history, after a drive that ends discharging and one that ends
--- charging, of two packs. Every register but CTRL is not 0 and, but for CAC and NAC, FCAC and LMD while charging, unlike every other; of the saved fields
--- only the count of rest windows is 0, which a current clears, and DCR while charging. The numbers are the second implementation's
--- (`reference/tests/scripted.rs`). Definitions only; assumes nothing.
+-- All 128 registers, the 55 saved bytes that the calls from C leave, and the history, after a drive that ends discharging and one that ends charging,
+-- of two packs. Every register but CTRL is not 0 and unlike every other, except that nothing is compensated while charging: CAC is NAC, and FCAC is
+-- LMD. Of the saved fields the count of rest windows is 0, which a current clears, and DCR while charging; `KeptRows` has both not 0. The numbers are
+-- the second implementation's (`reference/tests/scripted.rs`). Definitions only; assumes nothing.
 use mathlib.Core.List.{[], _∷_}
 use mathlib.Core.Path.{_≡_}
 use lib.IntN.{negsuc, pos}

@@ -263,6 +263,10 @@ returns c =
         longest-run-discharging-charge = refl;
         longest-run-resting = refl;
         longest-run-resting-charge = refl;
+        kept-charging-wrtnac-charge = refl;
+        kept-charging-wrtlmd-charge = refl;
+        kept-discharging-wrtnac-charge = refl;
+        kept-discharging-wrtlmd-charge = refl;
       };
       calls = record {
         windows-gauge = refl;
