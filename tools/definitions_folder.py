@@ -8,7 +8,7 @@ ROOT = pathlib.Path(__file__).resolve().parent.parent
 # crates of rows; every row is a field of a record
 ROWS = ["examples", "scripted"]
 # files of rows that take longer: asked only where the others refuse nothing
-LATER = ["CallRows", "CycleRows", "EstimateRows", "FlagRows", "PreviewRows", "RestRows", "StandbyRows"]
+LATER = ["CallRows", "CycleRows", "EstimateRows", "EventRows", "PreviewRows", "RestRows", "StandbyRows"]
 STAGES = ["first", "later"]
 # what the bench program's shell promises: no definition of it computes
 WITHOUT = ["bench", "bench_filter"]

@@ -197,7 +197,7 @@ fn written(kind: &str, list: &[i64]) -> String {
 
 #[test]
 fn every_row_is_what_this_implementation_gives() {
-    let files = ["RegisterRows.antt", "KeptRows.antt", "FlagRows.antt", "CallRows.antt", "TextRows.antt"];
+    let files = ["RegisterRows.antt", "KeptRows.antt", "EventRows.antt", "CallRows.antt", "TextRows.antt"];
     let texts: Vec<String> = ["Packs.antt"].iter().chain(&files).map(|name| text(name)).collect();
     let starts = definitions(&texts, "ℕ");
     let scripts = definitions(&texts, "Repeated");

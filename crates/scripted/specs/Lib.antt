@@ -1,5 +1,5 @@
 pub mod CallRows
-pub mod FlagRows
+pub mod EventRows
 pub mod KeptRows
 pub mod Packs
 pub mod PartRows

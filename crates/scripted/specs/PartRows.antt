@@ -20,7 +20,7 @@ use Rattle.configuration.specs.Configuration.{dcomp, dcompTaken, dmfsd, id3, il
 use Rattle.drive.specs.Claim.{countsHeld, partOfLearned, runAt}
 use Rattle.drive.specs.OlderForms.{counts, gaugeOf41}
 use Rattle.drive.specs.Update.{Step, bytesAfterSteps, callsOf, make, start}
-use Rattle.form.specs.Form.{Flags, Sixteenths, form4, newest}
+use Rattle.form.specs.Form.{Flags, Sixteenths, Standby, form4, newest, placeOf, widthOf}
 use Rattle.form.specs.InNewest.{inNewest, placesOf}
 use Rattle.gauge.specs.Calls.{keyAnswer, windowAnswer}
 use Rattle.gauge.specs.declared.answer.Answer.{Answer}
@@ -169,6 +169,9 @@ pub record PartRows : Type 0 where
   pub decoded-54 : savedBytes (decodedGauge (take 54 keptDischarging)) ≡ 5 ∷ replicate 54 0
   pub rejected-14 : rejectedAnswer .number ≡ 14
   pub rejected-bytes : savedBytes refused ≡ 5 ∷ (replicate 38 0 ++ (0x44 ∷ 0x10 ∷ replicate 14 0))
+  -- a field that the form has not stands behind all others, without a byte
+  pub place-none : placeOf Standby (newest .fields) ≡ 55
+  pub width-none : widthOf Standby (newest .fields) ≡ 0
   -- form 4 in the places of form 5: two bytes 0 behind its count
   pub places-41 : (placesOf 41) .number ≡ 2
   pub places-43 : (placesOf 43) .number ≡ 3

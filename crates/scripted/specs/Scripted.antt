@@ -1,6 +1,6 @@
 -- All rows of scripted lists, as one claim. Definitions only; assumes nothing.
 use Rattle.scripted.specs.CallRows.{CallRows}
-use Rattle.scripted.specs.FlagRows.{FlagRows}
+use Rattle.scripted.specs.EventRows.{EventRows}
 use Rattle.scripted.specs.KeptRows.{KeptRows}
 use Rattle.scripted.specs.PartRows.{PartRows}
 use Rattle.scripted.specs.RegisterRows.{RegisterRows}
@@ -9,7 +9,7 @@ use Rattle.scripted.specs.TextRows.{TextRows}
 pub record Scripted : Type 0 where
   pub registers : RegisterRows
   pub kept : KeptRows
-  pub flags : FlagRows
+  pub events : EventRows
   pub calls : CallRows
   pub text : TextRows
   pub part : PartRows

@@ -1,11 +1,11 @@
--- FLAGS and MODE after each thing that touches them, and h, LMD and DCR. The numbers are the second implementation's
+-- What each thing that touches the flags leaves: FLAGS and MODE, h, LMD and DCR, and the history. The numbers are the second implementation's
 -- (`reference/tests/scripted.rs`). Definitions only; assumes nothing.
 use mathlib.Core.List.{List, [], _∷_}
 use mathlib.Core.Path.{_≡_}
-use lib.IntN.{pos}
+use lib.IntN.{negsuc, pos}
 use Rattle.history.specs.Call.{rest, window, write}
 use Rattle.scripted.specs.Packs.{everySet, keptCharging, keptDischarging, longestRun, noneSet}
-use Rattle.scripted.specs.Script.{Repeated, byte, chargeOf, drawn, flagsAndMode, _of_}
+use Rattle.scripted.specs.Script.{Repeated, byte, chargeOf, drawn, flagsAndMode, historyOf, _of_}
 
 -- c = 0, at any voltage
 abbrev idle : List Repeated
@@ -89,7 +89,7 @@ doneAlone = 1 of write 0x01 (byte 0x10) ∷ 1 of write 0x00 (byte 0xA9) ∷ []
 abbrev notCarried : List Repeated
 notCarried = 1 of write 0x01 (byte 0xFF) ∷ 1 of write 0x00 (byte 0x56) ∷ []
 
-pub record FlagRows : Type 0 where
+pub record EventRows : Type 0 where
   -- from CI, VDQ, EDV1, EDVF and MODE 0xFF
   pub every-set-idle : flagsAndMode everySet idle ≡ 0x17 ∷ 0xFF ∷ []
   pub every-set-idle-low : flagsAndMode everySet idleLow ≡ 0x17 ∷ 0xFF ∷ []
@@ -217,3 +217,106 @@ pub record FlagRows : Type 0 where
   pub kept-charging-wrtlmd-charge : chargeOf keptCharging wrtlmd ≡ 229_675_757_877 ∷ 3_287 ∷ 0 ∷ []
   pub kept-discharging-wrtnac-charge : chargeOf keptDischarging wrtnac ≡ 733_455_000_000 ∷ 41_261 ∷ 0 ∷ []
   pub kept-discharging-wrtlmd-charge : chargeOf keptDischarging wrtlmd ≡ 733_455_000_000 ∷ 5_433 ∷ 0 ∷ []
+  -- the history begun there: P, Q, K, L, R or −1, MODE, AR, rest windows, cycles and their drain
+  pub every-set-idle-history : historyOf everySet idle
+      ≡ pos 81_000_000_005 ∷ pos 0 ∷ pos 4_800 ∷ pos 1_024 ∷ pos 121_500_004_800 ∷ pos 255
+      ∷ pos 700 ∷ pos 7 ∷ pos 5 ∷ pos 9 ∷ []
+  pub every-set-idle-low-history : historyOf everySet idleLow
+      ≡ pos 81_000_000_005 ∷ pos 0 ∷ pos 4_800 ∷ pos 1_024 ∷ pos 121_500_004_800 ∷ pos 255
+      ∷ pos 700 ∷ pos 7 ∷ pos 5 ∷ pos 9 ∷ []
+  pub every-set-charging-history : historyOf everySet charging
+      ≡ pos 81_000_000_005 ∷ pos 100 ∷ pos 4_800 ∷ pos 1_024 ∷ negsuc 0 ∷ pos 255
+      ∷ pos 700 ∷ pos 0 ∷ pos 5 ∷ pos 9 ∷ []
+  pub every-set-charging-low-history : historyOf everySet chargingLow
+      ≡ pos 81_000_000_005 ∷ pos 100 ∷ pos 4_800 ∷ pos 1_024 ∷ negsuc 0 ∷ pos 255
+      ∷ pos 700 ∷ pos 0 ∷ pos 5 ∷ pos 9 ∷ []
+  pub every-set-full-by-sum-history : historyOf everySet fullBySum
+      ≡ pos 138_240_000_000 ∷ pos 0 ∷ pos 0 ∷ pos 1_024 ∷ pos 0 ∷ pos 255
+      ∷ pos 700 ∷ pos 0 ∷ pos 5 ∷ pos 9 ∷ []
+  pub every-set-full-by-taper-history : historyOf everySet fullByTaper
+      ≡ pos 138_240_000_000 ∷ pos 0 ∷ pos 0 ∷ pos 1_024 ∷ pos 0 ∷ pos 255
+      ∷ pos 700 ∷ pos 0 ∷ pos 5 ∷ pos 9 ∷ []
+  pub every-set-discharging-history : historyOf everySet discharging
+      ≡ pos 81_000_000_005 ∷ negsuc 2_999 ∷ pos 4_800 ∷ pos 1_024 ∷ pos 122_076_004_800 ∷ pos 255
+      ∷ pos 700 ∷ pos 0 ∷ pos 5 ∷ pos 576_000_009 ∷ []
+  pub every-set-stopping-history : historyOf everySet stopping
+      ≡ pos 0 ∷ pos 0 ∷ pos 0 ∷ pos 1_024 ∷ pos 207_549_830_496 ∷ pos 255
+      ∷ pos 700 ∷ pos 0 ∷ pos 5 ∷ pos 86_049_792_009 ∷ []
+  pub every-set-at-edvf-history : historyOf everySet atEdvf
+      ≡ pos 0 ∷ pos 0 ∷ pos 0 ∷ pos 1_024 ∷ negsuc 0 ∷ pos 255
+      ∷ pos 700 ∷ pos 0 ∷ pos 5 ∷ pos 4_032_009 ∷ []
+  pub every-set-above-edvf-history : historyOf everySet aboveEdvf
+      ≡ pos 8_100_000_000 ∷ pos 0 ∷ pos 0 ∷ pos 960 ∷ negsuc 0 ∷ pos 255
+      ∷ pos 700 ∷ pos 0 ∷ pos 5 ∷ pos 4_032_009 ∷ []
+  pub every-set-at-e1-history : historyOf everySet atE1
+      ≡ pos 8_100_000_000 ∷ pos 0 ∷ pos 0 ∷ pos 960 ∷ negsuc 0 ∷ pos 255
+      ∷ pos 700 ∷ pos 0 ∷ pos 5 ∷ pos 4_032_009 ∷ []
+  pub every-set-light-at-e1-history : historyOf everySet lightAtE1
+      ≡ pos 81_000_000_005 ∷ negsuc 19 ∷ pos 4_800 ∷ pos 1_024 ∷ negsuc 0 ∷ pos 255
+      ∷ pos 700 ∷ pos 0 ∷ pos 5 ∷ pos 3_840_009 ∷ []
+  pub every-set-cold-at-e1-history : historyOf everySet coldAtE1
+      ≡ pos 81_000_000_005 ∷ negsuc 20 ∷ pos 1_200 ∷ pos 1_024 ∷ negsuc 0 ∷ pos 255
+      ∷ pos 700 ∷ pos 0 ∷ pos 5 ∷ pos 4_032_009 ∷ []
+  pub every-set-above-e1-history : historyOf everySet aboveE1
+      ≡ pos 81_000_000_005 ∷ negsuc 20 ∷ pos 4_800 ∷ pos 1_024 ∷ pos 121_504_036_800 ∷ pos 255
+      ∷ pos 700 ∷ pos 0 ∷ pos 5 ∷ pos 4_032_009 ∷ []
+  pub every-set-resting-history : historyOf everySet resting
+      ≡ pos 81_000_000_005 ∷ pos 0 ∷ pos 23_968 ∷ pos 1_024 ∷ pos 121_500_023_968 ∷ pos 255
+      ∷ pos 700 ∷ pos 12 ∷ pos 5 ∷ pos 9 ∷ []
+  pub every-set-wrtnac-history : historyOf everySet wrtnac
+      ≡ pos 94_500_000_000 ∷ pos 0 ∷ pos 0 ∷ pos 1_024 ∷ negsuc 0 ∷ pos 196
+      ∷ pos 700 ∷ pos 7 ∷ pos 5 ∷ pos 9 ∷ []
+  pub every-set-done-history : historyOf everySet done
+      ≡ pos 138_240_000_000 ∷ pos 0 ∷ pos 0 ∷ pos 1_024 ∷ pos 0 ∷ pos 196
+      ∷ pos 700 ∷ pos 7 ∷ pos 5 ∷ pos 9 ∷ []
+  pub every-set-prst-history : historyOf everySet prst
+      ≡ pos 81_000_000_005 ∷ pos 0 ∷ pos 0 ∷ pos 1_024 ∷ negsuc 0 ∷ pos 68
+      ∷ pos 0 ∷ pos 0 ∷ pos 5 ∷ pos 9 ∷ []
+  pub every-set-frst-history : historyOf everySet frst
+      ≡ pos 0 ∷ pos 0 ∷ pos 0 ∷ pos 1_024 ∷ negsuc 0 ∷ pos 68
+      ∷ pos 0 ∷ pos 0 ∷ pos 0 ∷ pos 0 ∷ []
+  pub every-set-wrtlmd-history : historyOf everySet wrtlmd
+      ≡ pos 81_000_000_005 ∷ pos 0 ∷ pos 0 ∷ pos 700 ∷ negsuc 0 ∷ pos 196
+      ∷ pos 700 ∷ pos 7 ∷ pos 5 ∷ pos 9 ∷ []
+  pub every-set-done-alone-history : historyOf everySet doneAlone
+      ≡ pos 138_240_000_000 ∷ pos 0 ∷ pos 0 ∷ pos 1_024 ∷ pos 0 ∷ pos 0
+      ∷ pos 700 ∷ pos 7 ∷ pos 5 ∷ pos 9 ∷ []
+  pub every-set-not-carried-history : historyOf everySet notCarried
+      ≡ pos 81_000_000_005 ∷ pos 0 ∷ pos 0 ∷ pos 1_024 ∷ pos 121_500_000_000 ∷ pos 255
+      ∷ pos 700 ∷ pos 7 ∷ pos 5 ∷ pos 9 ∷ []
+  pub every-set-stopping-at-e1-history : historyOf everySet stoppingAtE1
+      ≡ pos 13_770_000_000 ∷ pos 0 ∷ pos 0 ∷ pos 1_639 ∷ negsuc 0 ∷ pos 255
+      ∷ pos 700 ∷ pos 0 ∷ pos 5 ∷ pos 86_049_792_009 ∷ []
+  pub none-set-idle-history : historyOf noneSet idle
+      ≡ pos 81_000_000_005 ∷ pos 0 ∷ pos 4_800 ∷ pos 1_024 ∷ negsuc 0 ∷ pos 0
+      ∷ pos 700 ∷ pos 7 ∷ pos 5 ∷ pos 9 ∷ []
+  pub none-set-charging-history : historyOf noneSet charging
+      ≡ pos 81_000_000_005 ∷ pos 100 ∷ pos 4_800 ∷ pos 1_024 ∷ negsuc 0 ∷ pos 0
+      ∷ pos 700 ∷ pos 0 ∷ pos 5 ∷ pos 9 ∷ []
+  pub none-set-full-by-sum-history : historyOf noneSet fullBySum
+      ≡ pos 138_240_000_000 ∷ pos 0 ∷ pos 0 ∷ pos 1_024 ∷ pos 0 ∷ pos 0
+      ∷ pos 700 ∷ pos 0 ∷ pos 5 ∷ pos 9 ∷ []
+  pub none-set-at-e1-history : historyOf noneSet atE1
+      ≡ pos 81_000_000_005 ∷ negsuc 20 ∷ pos 4_800 ∷ pos 1_024 ∷ negsuc 0 ∷ pos 0
+      ∷ pos 700 ∷ pos 0 ∷ pos 5 ∷ pos 4_032_009 ∷ []
+  pub none-set-stopping-history : historyOf noneSet stopping
+      ≡ pos 0 ∷ pos 0 ∷ pos 0 ∷ pos 1_024 ∷ negsuc 0 ∷ pos 0
+      ∷ pos 700 ∷ pos 0 ∷ pos 5 ∷ pos 86_049_792_009 ∷ []
+  pub longest-run-at-e1-history : historyOf longestRun atE1
+      ≡ pos 81_000_000_005 ∷ negsuc 20 ∷ pos 4_800 ∷ pos 1_024 ∷ negsuc 0 ∷ pos 255
+      ∷ pos 700 ∷ pos 0 ∷ pos 5 ∷ pos 4_032_009 ∷ []
+  pub longest-run-resting-history : historyOf longestRun resting
+      ≡ pos 81_000_000_005 ∷ pos 0 ∷ pos 23_968 ∷ pos 1_024 ∷ negsuc 0 ∷ pos 255
+      ∷ pos 700 ∷ pos 12 ∷ pos 5 ∷ pos 9 ∷ []
+  pub kept-charging-wrtnac-history : historyOf keptCharging wrtnac
+      ≡ pos 270_405_000_000 ∷ pos 0 ∷ pos 0 ∷ pos 2_003 ∷ negsuc 0 ∷ pos 196
+      ∷ pos 3_287 ∷ pos 16_909_060 ∷ pos 2_829 ∷ pos 78_187_493_530 ∷ []
+  pub kept-charging-wrtlmd-history : historyOf keptCharging wrtlmd
+      ≡ pos 229_675_757_877 ∷ pos 0 ∷ pos 0 ∷ pos 3_287 ∷ negsuc 0 ∷ pos 196
+      ∷ pos 3_287 ∷ pos 16_909_060 ∷ pos 2_829 ∷ pos 78_187_493_530 ∷ []
+  pub kept-discharging-wrtnac-history : historyOf keptDischarging wrtnac
+      ≡ pos 733_455_000_000 ∷ pos 0 ∷ pos 0 ∷ pos 41_261 ∷ negsuc 0 ∷ pos 196
+      ∷ pos 5_433 ∷ pos 2_309_737_967 ∷ pos 339 ∷ pos 4_847_623_480_424 ∷ []
+  pub kept-discharging-wrtlmd-history : historyOf keptDischarging wrtlmd
+      ≡ pos 733_455_000_000 ∷ pos 0 ∷ pos 0 ∷ pos 5_433 ∷ negsuc 0 ∷ pos 196
+      ∷ pos 5_433 ∷ pos 2_309_737_967 ∷ pos 339 ∷ pos 4_847_623_480_424 ∷ []
