@@ -226,7 +226,8 @@ const BYTES: [usize; 3] = [0x01, 0x0A, 0x0B];
 /// A row of registers in which two were 0 or alike would not tell whether they are exchanged.
 #[test]
 fn the_registers_of_the_rows_are_unlike() {
-    for row in rows(&text("RegisterRows.antt")).iter().filter(|row| row.kind == "registersOf") {
+    let (drives, kept) = (rows(&text("RegisterRows.antt")), rows(&text("KeptRows.antt")));
+    for row in drives.iter().chain(&kept).filter(|row| row.kind == "registersOf") {
         let list = numbers(&row.list);
         let charging = list[0x0A] & 0x80 != 0;
         let pair = |at: &usize| (*at, list[*at] + 256 * list[at + 1]);
@@ -235,7 +236,8 @@ fn the_registers_of_the_rows_are_unlike() {
         let shown: Vec<(usize, i64)> = PAIRS.iter().map(pair).chain(BYTES.iter().chain(&configuration).map(byte)).collect();
         for (at, value) in &shown {
             // the bench pack has 0 in PKCFG and ID3
-            assert!(*value != 0 || (row.start == "bench" && [0x7C, 0x7D].contains(at)), "{}: {at:#04x} is 0", row.name);
+            let bench = ["bench", "keptCharging"].contains(&row.start.as_str());
+            assert!(*value != 0 || (bench && [0x7C, 0x7D].contains(at)), "{}: {at:#04x} is 0", row.name);
             for (other, same) in &shown {
                 // nothing is compensated while charging: CAC is NAC, and FCAC is LMD
                 let uncompensated = charging && [(0x0C, 0x10), (0x0E, 0x12)].contains(&(*at, *other));
@@ -243,5 +245,19 @@ fn the_registers_of_the_rows_are_unlike() {
                 assert!(!alike, "{}: {at:#04x} and {other:#04x} are {value}", row.name);
             }
         }
+    }
+}
+
+/// Saved bytes with a field that is 0 would not tell where that field stands.
+#[test]
+fn the_saved_bytes_of_the_rows_have_no_field_0() {
+    let starts = definitions(&[text("Packs.antt")], "ℕ");
+    for name in ["keptDischarging", "keptCharging"] {
+        let bytes: Vec<u8> = numbers(&starts[name]).into_iter().map(|number| number as u8).collect();
+        let gauge = saved::load(&bytes).expect("a gauge");
+        let wide = [gauge.h, gauge.dcr, gauge.cycle_drain, i64::from(gauge.rest_count)];
+        let pairs = [gauge.lmd, gauge.si_sixteenths, gauge.c, gauge.volt, gauge.temp, gauge.ar, gauge.cyct];
+        let fields = wide.into_iter().chain(pairs.map(i64::from)).chain([gauge.mode, gauge.flags].map(i64::from));
+        assert_eq!(fields.filter(|field| *field == 0).count(), 0, "{name}");
     }
 }

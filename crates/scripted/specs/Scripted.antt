@@ -11,5 +11,5 @@ pub record Scripted : Type 0 where
   pub kept : KeptRows
   pub events : EventRows
   pub calls : CallRows
-  pub text : TextRows
-  pub part : PartRows
+  pub texts : TextRows
+  pub parts : PartRows

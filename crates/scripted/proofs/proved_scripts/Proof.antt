@@ -331,7 +331,7 @@ returns c =
         estimates-saved = refl;
         estimates-kept = refl;
       };
-      text = record {
+      texts = record {
         paper-printed = refl;
         paper-fed = refl;
         paper-parts = refl;
@@ -360,7 +360,7 @@ returns c =
         differing-fed = refl;
         differing-parts = refl;
       };
-      part = record {
+      parts = record {
         number-past = refl;
         bytes-past = refl;
         bytes-none = refl;
