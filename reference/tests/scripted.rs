@@ -97,13 +97,12 @@ fn script(list: &str) -> Vec<Call> {
 /// The definitions of some files that are lists of one kind, by name.
 fn definitions(texts: &[String], kind: &str) -> HashMap<String, String> {
     let mut out = HashMap::new();
-    for text in texts {
-        for part in text.split("abbrev ").skip(1) {
-            let part = part.trim_start_matches("pub ");
-            let Some((name, rest)) = part.split_once(" : ") else { continue };
-            let Some(rest) = rest.strip_prefix(&format!("List {kind} {name} = ")) else { continue };
-            let end = rest.find("[]").expect("the end of a list") + 2;
-            out.insert(name.to_string(), rest[..end].to_string());
+    for part in texts.iter().flat_map(|text| text.split("abbrev ").skip(1)) {
+        let name = part.trim_start_matches("pub ").split(' ').next().expect("a name");
+        let begin = format!("{name} : List {kind} {name} = ");
+        if let Some((_, list)) = part.split_once(&begin) {
+            let end = list.find("[]").expect("the end of a list") + 2;
+            out.insert(name.to_string(), list[..end].to_string());
         }
     }
     out
