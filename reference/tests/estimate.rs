@@ -37,6 +37,12 @@ fn the_nine_points() {
     }
 }
 
+/// Each entry times its place counted from 1, as the rows of the definitions have it (`crates/scripted/specs/PartRows.antt`).
+#[test]
+fn the_table_as_a_whole() {
+    assert_eq!((0..301).map(|k| (k + 1) * permille(3_000 + 4 * k)).sum::<i32>(), 24_732_285);
+}
+
 #[test]
 fn entries_between_the_points_are_floored() {
     // Each slope of the line, beside both of its points: 0.1, 0.5, 2.1, 2.1, 1.4, 1.3, 1 and 0.7 permille a mV.

@@ -1,10 +1,10 @@
 -- What no drive shows: values that no gauge has, bytes past the end of a list, what a call from C hands out and leaves where it is refused, and the
 -- parts that saving, loading and the claims are put together from. Each number by hand, from the papers and from the bytes of `Packs`. Definitions
 -- only; assumes nothing.
-use mathlib.Core.Bool.{true, false}
+use mathlib.Core.Bool.{Bool, true, false, cond}
 use mathlib.Core.List.{List, [], _∷_, _++_}
 use mathlib.Core.Path.{_≡_}
-use Prim.Native.Nat.{ℕ}
+use Prim.Native.Nat.{ℕ, zero, suc, _+_, _-_, _*_}
 use lib.IntN.{pos, negsuc}
 use lib.ListN.{drop, length, replicate, set, take}
 use Rattle.bench_output.specs.declared.output.Output.the-variants.{Refused}
@@ -13,6 +13,7 @@ use Rattle.charge.specs.Charge.{emptyStop}
 use Rattle.charge.specs.Step.{leakedAtOnce}
 use Rattle.charge.specs.declared.charge.Charge.{Charge}
 use Rattle.command.specs.Command.{commandOf, highestCommandBit}
+use Rattle.command.specs.declared.command.Command.the-variants.{Prst}
 use Rattle.command.specs.declared.command.Decision.the-variants as Decision
 use Rattle.compensation.specs.Unaged.{dcmpUnaged}
 use Rattle.configuration.specs.BenchPack.{benchPack}
@@ -20,6 +21,8 @@ use Rattle.configuration.specs.Configuration.{dcomp, dcompTaken, dmfsd, id3, il
 use Rattle.drive.specs.Claim.{countsHeld, partOfLearned, runAt}
 use Rattle.drive.specs.OlderForms.{counts, gaugeOf41}
 use Rattle.drive.specs.Update.{Step, bytesAfterSteps, callsOf, make, start}
+use Rattle.flags.specs.Byte.{flagsFit}
+use Rattle.flags.specs.Flags.{atEdv1, atTaught, flagsObeyed}
 use Rattle.form.specs.Form.{Flags, Sixteenths, Standby, form4, newest, placeOf, widthOf}
 use Rattle.form.specs.InNewest.{inNewest, placesOf}
 use Rattle.gauge.specs.Calls.{keyAnswer, windowAnswer}
@@ -32,10 +35,13 @@ use Rattle.handset.specs.Calls.{previewCommand, previewNumber, previewReply, re
 use Rattle.handset.specs.Keep.{hostPlace, keptBytes, keptNumber}
 use Rattle.history.specs.Call.{Call, rest}
 use Rattle.history.specs.Claim.{begun}
+use Rattle.host.specs.Host.{stored}
 use Rattle.load.specs.EveryForm.{carriedStandby, heldFits, toldBy}
 use Rattle.load.specs.Load.{decodedGauge, rejectedAnswer}
 use Rattle.numbers.specs.Little.{bytesAt, numberAt}
 use Rattle.numbers.specs.Signed.{atLeastZero}
+use Rattle.permille.specs.Rule.{rule}
+use Rattle.permille.specs.Table.{entries, entryVoltage, permille}
 use Rattle.registers.specs.Map.{configurationPair, pairAt}
 use Rattle.registers.specs.Reading.{pairBytes}
 use Rattle.registers.specs.Whole.{allAnswer, withPair}
@@ -78,6 +84,16 @@ called v t g = windowCall (pos 0) (pos v) (pos t) g
 -- two calls of one window of rest, with a start of the handset between them
 abbrev steps : List Step
 steps = make (rest 1 (pos 1_192)) ∷ start ∷ make (rest 1 (pos 1_192)) ∷ []
+
+-- the bytes below a number that pass a test, in order
+abbrev passing : (ℕ → Bool) → ℕ → List ℕ
+passing test zero = []
+passing test (suc k) = passing test k ++ cond (test k) (k ∷ []) []
+
+-- the entries below a number, each times its place counted from 1
+abbrev entriesSum : ℕ → ℕ
+entriesSum zero = 0
+entriesSum (suc k) = entriesSum k + suc k * permille (pos (entryVoltage k))
 
 pub record PartRows : Type 0 where
   -- "a byte past the list's end is 0"
@@ -131,6 +147,24 @@ pub record PartRows : Type 0 where
   pub all-mode : take 2 ((allAnswer (started keptDischarging)) .bytes) ≡ 0x00 ∷ 0xDA ∷ []
   -- what the bench program prints of a rejected gauge
   pub shown-14 : registersOutput refused ≡ Refused 14
+  -- the 301 entries, worked out in whole numbers from the nine points; the rule beside an entry and past the table
+  pub table : entriesSum 301 ≡ 24_732_285
+  pub table-last : entryVoltage (entries - 1) ≡ 4_200
+  pub table-out : permille (pos 4_201) ≡ 0
+  pub rule-3399 : rule 3_399 ≡ 39
+  pub rule-past : rule 4_300 ≡ 1_000
+  -- the FLAGS that fit c ≤ 0 and c > 0: bits 4, 2, 1 and 0 in any way, bit 7 with c > 0 alone
+  pub fitting : passing (λ b. flagsFit b false) 256 ≡ 0 ∷ 1 ∷ 2 ∷ 3 ∷ 4 ∷ 5 ∷ 6 ∷ 7 ∷ 16 ∷ 17 ∷ 18 ∷ 19 ∷ 20 ∷ 21 ∷ 22 ∷ 23 ∷ []
+  pub fitting-charging : passing (λ b. flagsFit b true) 256
+      ≡ 128 ∷ 129 ∷ 130 ∷ 131 ∷ 132 ∷ 133 ∷ 134 ∷ 135 ∷ 144 ∷ 145 ∷ 146 ∷ 147 ∷ 148 ∷ 149 ∷ 150 ∷ 151 ∷ []
+  -- from CI alone
+  pub edv1-alone : atEdv1 (record { ci = true; edv1 = false; edvf = false }) ≡ record { ci = true; edv1 = true; edvf = false }
+  pub taught-alone : atTaught (record { ci = true; edv1 = false; edvf = false }) ≡ record { ci = false; edv1 = true; edvf = false }
+  pub prst-alone : flagsObeyed Prst (record { ci = true; edv1 = false; edvf = false }) ≡ record { ci = true; edv1 = false; edvf = false }
+  -- MODE, AR's low byte and its high one, each beside the others
+  pub store-mode : stored 1 0x55 (record { mode = 0xDA; ar = 0x1278 }) ≡ record { mode = 0x55; ar = 0x1278 }
+  pub store-low : stored 2 0x34 (record { mode = 0xDA; ar = 0x1278 }) ≡ record { mode = 0xDA; ar = 0x1234 }
+  pub store-high : stored 3 0x56 (record { mode = 0xDA; ar = 0x1278 }) ≡ record { mode = 0xDA; ar = 0x5678 }
   -- no command bit, and no command
   pub no-bit : highestCommandBit 0xC4 ≡ 8
   pub no-command : commandOf (Decision.Refused 9) ≡ 0
