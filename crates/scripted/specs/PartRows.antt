@@ -26,6 +26,7 @@ use Rattle.flags.specs.Flags.{atEdv1, atTaught, flagsObeyed}
 use Rattle.form.specs.Form.{Flags, Sixteenths, Standby, form4, newest, placeOf, widthOf}
 use Rattle.form.specs.InNewest.{inNewest, placesOf}
 use Rattle.gauge.specs.Calls.{keyAnswer, windowAnswer}
+use Rattle.gauge.specs.Opening.{openAnswer}
 use Rattle.gauge.specs.declared.answer.Answer.{Answer}
 use Rattle.gauge.specs.declared.state.Gauge.{Gauge}
 use Rattle.grains.specs.Grains.{saturatingDifference, saturatingSum}
@@ -140,6 +141,8 @@ pub record PartRows : Type 0 where
   pub pair-last : configurationPair benchPack 4 ≡ 0x156C
   pub pair-bytes : pairBytes 0x1234 0 2 ≡ 0x34 ∷ 0x12 ∷ []
   pub pair-high : pairBytes 0x1234 1 1 ≡ 0x12 ∷ []
+  pub pair-no-third : pairBytes 0x1234 0 3 ≡ 0x34 ∷ 0x12 ∷ []
+  pub pair-of-none : configurationPair [] 0 ≡ 0
   pub pair-put : withPair 1 0x1234 (replicate 4 7) ≡ 7 ∷ 0x34 ∷ 0x12 ∷ 7 ∷ []
   pub all-refused : (allAnswer refused) .bytes ≡ replicate 128 0
   pub all-14 : (allAnswer refused) .number ≡ 14
@@ -171,6 +174,8 @@ pub record PartRows : Type 0 where
   -- ---- a key at CTRL of an accepted gauge: MODE 0xFF obeys WRTNAC of AR 700; MODE 0x00 is 9
   pub key-0 : (keyAnswer (started everySet) 0xA9) .number ≡ 0
   pub key-held : (keyAnswer (started everySet) 0xA9) .gauge .charge .held ≡ 94_500_000_000
+  -- MODE 0x6B obeys WRTNAC, which ends a run; AR's low byte 0xD7 would be DONE
+  pub key-mode : (keyAnswer (started keptCharging) 0xA9) .gauge .charge .run .vdq ≡ false
   pub key-9 : (keyAnswer (started noneSet) 0xA9) .number ≡ 9
   pub key-kept : savedBytes ((keyAnswer (started noneSet) 0xA9) .gauge) ≡ noneSet
   -- ---- saving: 14, then 13
@@ -218,6 +223,7 @@ pub record PartRows : Type 0 where
   pub open-13 : openNumber bench 54 ≡ 13
   pub open-0 : openNumber bench 55 ≡ 0
   pub open-kept : openBytes bench (replicate 54 7) ≡ replicate 54 7
+  pub open-refused : (openAnswer (take 9 bench)) .gauge .configuration ≡ replicate 10 0
   -- a conversion 14, 13
   pub convert-14 : convertNumber (take 52 keptForm4) 54 ≡ 14
   pub convert-13 : convertNumber keptForm4 54 ≡ 13
