@@ -4,7 +4,7 @@ use mathlib.Core.List.{List, [], _∷_}
 use mathlib.Core.Path.{_≡_}
 use lib.IntN.{negsuc, pos}
 use Rattle.history.specs.Call.{rest, window, write}
-use Rattle.scripted.specs.Packs.{everySet, keptCharging, keptDischarging, longestRun, noneSet}
+use Rattle.scripted.specs.Packs.{everySet, keptCharging, keptDischarging, longestRun, noneSet, unfiltered}
 use Rattle.scripted.specs.Script.{Repeated, byte, chargeOf, drawn, flagsAndMode, historyOf, _of_}
 
 -- c = 0, at any voltage
@@ -88,6 +88,23 @@ doneAlone = 1 of write 0x01 (byte 0x10) ∷ 1 of write 0x00 (byte 0xA9) ∷ []
 -- a key that is refused
 abbrev notCarried : List Repeated
 notCarried = 1 of write 0x01 (byte 0xFF) ∷ 1 of write 0x00 (byte 0x56) ∷ []
+
+-- DONE, and one unit with DMF 0, either way
+abbrev oneCharged : List Repeated
+oneCharged = 1 of write 0x01 (byte 0x10) ∷ 1 of write 0x00 (byte 0xA9) ∷ 1 of window (pos 1) (pos 3_700) (pos 1_192) ∷ []
+
+abbrev oneDrawn : List Repeated
+oneDrawn = 1 of write 0x01 (byte 0x10) ∷ 1 of write 0x00 (byte 0xA9) ∷ 1 of window (drawn 1) (pos 3_700) (pos 1_192) ∷ []
+
+-- that unit at the voltages of full by taper, EDVF and E1, without DONE
+abbrev oneAtTaper : List Repeated
+oneAtTaper = 1 of window (pos 1) (pos 4_100) (pos 1_192) ∷ []
+
+abbrev oneAtEdvf : List Repeated
+oneAtEdvf = 1 of window (drawn 1) (pos 2_800) (pos 1_192) ∷ []
+
+abbrev oneAtE1 : List Repeated
+oneAtE1 = 1 of window (drawn 1) (pos 3_000) (pos 1_192) ∷ []
 
 pub record EventRows : Type 0 where
   -- from CI, VDQ, EDV1, EDVF and MODE 0xFF
@@ -320,3 +337,29 @@ pub record EventRows : Type 0 where
   pub kept-discharging-wrtlmd-history : historyOf keptDischarging wrtlmd
       ≡ pos 733_455_000_000 ∷ pos 0 ∷ pos 0 ∷ pos 5_433 ∷ negsuc 0 ∷ pos 196
       ∷ pos 5_433 ∷ pos 2_309_737_967 ∷ pos 339 ∷ pos 4_847_623_480_424 ∷ []
+  -- one unit with DMF 0
+  pub one-charged : flagsAndMode unfiltered oneCharged ≡ 0x94 ∷ 0x00 ∷ []
+  pub one-charged-charge : chargeOf unfiltered oneCharged ≡ 138_240_000_000 ∷ 1_024 ∷ 0 ∷ []
+  pub one-charged-history : historyOf unfiltered oneCharged
+      ≡ pos 138_240_000_000 ∷ pos 0 ∷ pos 0 ∷ pos 1_024 ∷ pos 0 ∷ pos 0
+      ∷ pos 0 ∷ pos 0 ∷ pos 0 ∷ pos 0 ∷ []
+  pub one-drawn : flagsAndMode unfiltered oneDrawn ≡ 0x14 ∷ 0x00 ∷ []
+  pub one-drawn-charge : chargeOf unfiltered oneDrawn ≡ 138_239_799_808 ∷ 1_024 ∷ 200_192 ∷ []
+  pub one-drawn-history : historyOf unfiltered oneDrawn
+      ≡ pos 138_240_000_000 ∷ negsuc 0 ∷ pos 8_192 ∷ pos 1_024 ∷ pos 200_192 ∷ pos 0
+      ∷ pos 0 ∷ pos 0 ∷ pos 0 ∷ pos 192_000 ∷ []
+  pub one-at-taper : flagsAndMode unfiltered oneAtTaper ≡ 0x94 ∷ 0x40 ∷ []
+  pub one-at-taper-charge : chargeOf unfiltered oneAtTaper ≡ 138_240_000_000 ∷ 1_024 ∷ 0 ∷ []
+  pub one-at-taper-history : historyOf unfiltered oneAtTaper
+      ≡ pos 138_240_000_000 ∷ pos 0 ∷ pos 0 ∷ pos 1_024 ∷ pos 0 ∷ pos 68
+      ∷ pos 0 ∷ pos 0 ∷ pos 0 ∷ pos 0 ∷ []
+  pub one-at-edvf : flagsAndMode unfiltered oneAtEdvf ≡ 0x13 ∷ 0x44 ∷ []
+  pub one-at-edvf-charge : chargeOf unfiltered oneAtEdvf ≡ 0 ∷ 1_024 ∷ 0 ∷ []
+  pub one-at-edvf-history : historyOf unfiltered oneAtEdvf
+      ≡ pos 0 ∷ pos 0 ∷ pos 0 ∷ pos 1_024 ∷ negsuc 0 ∷ pos 68
+      ∷ pos 0 ∷ pos 0 ∷ pos 0 ∷ pos 192_000 ∷ []
+  pub one-at-e1 : flagsAndMode unfiltered oneAtE1 ≡ 0x12 ∷ 0x44 ∷ []
+  pub one-at-e1-charge : chargeOf unfiltered oneAtE1 ≡ 0 ∷ 1_024 ∷ 0 ∷ []
+  pub one-at-e1-history : historyOf unfiltered oneAtE1
+      ≡ pos 0 ∷ pos 0 ∷ pos 0 ∷ pos 1_024 ∷ negsuc 0 ∷ pos 68
+      ∷ pos 0 ∷ pos 0 ∷ pos 0 ∷ pos 192_000 ∷ []

@@ -23,8 +23,9 @@ use Rattle.drive.specs.OlderForms.{counts, gaugeOf41}
 use Rattle.drive.specs.Update.{Step, bytesAfterSteps, callsOf, make, start}
 use Rattle.flags.specs.Byte.{flagsFit}
 use Rattle.flags.specs.Flags.{atEdv1, atTaught, flagsObeyed}
-use Rattle.form.specs.Form.{Flags, Sixteenths, Standby, form4, newest, placeOf, widthOf}
+use Rattle.form.specs.Form.{Flags, Sixteenths, Standby, form1, form4, formOf, newest, placeOf, widthOf}
 use Rattle.form.specs.InNewest.{inNewest, placesOf}
+use Rattle.form.specs.Signed as Pair
 use Rattle.gauge.specs.Calls.{keyAnswer, windowAnswer}
 use Rattle.gauge.specs.Opening.{openAnswer}
 use Rattle.gauge.specs.declared.answer.Answer.{Answer}
@@ -32,13 +33,15 @@ use Rattle.gauge.specs.declared.state.Gauge.{Gauge}
 use Rattle.grains.specs.Grains.{saturatingDifference, saturatingSum}
 use Rattle.grains.specs.Rest.{restLeak}
 use Rattle.handset.specs.Calls.{callBytes, callNumber, convertBytes, convertNumber, estimateCounts, estimateDistance, estimateNumber, openBytes, openNumber}
-use Rattle.handset.specs.Calls.{previewCommand, previewNumber, previewReply, readNumber, readReply, windowCall}
+use Rattle.handset.specs.Calls.{lookNumber, previewCommand, previewNumber, previewReply, readNumber, readReply, windowCall}
 use Rattle.handset.specs.Keep.{hostPlace, keptBytes, keptNumber}
 use Rattle.history.specs.Call.{Call, rest}
 use Rattle.history.specs.Claim.{begun}
+use Rattle.history.specs.Counts.{cycleCount, restCount}
+use Rattle.history.specs.History.{hostAfter}
 use Rattle.host.specs.Host.{stored}
 use Rattle.load.specs.EveryForm.{carriedStandby, heldFits, toldBy}
-use Rattle.load.specs.Load.{decodedGauge, rejectedAnswer}
+use Rattle.load.specs.Load.{answerIn, decodedGauge, rejectedAnswer, standbyFits}
 use Rattle.numbers.specs.Little.{bytesAt, numberAt}
 use Rattle.numbers.specs.Signed.{atLeastZero}
 use Rattle.permille.specs.Rule.{rule}
@@ -52,7 +55,7 @@ use Rattle.saved.specs.Put.{chargePut, countersPut, headed, hostPut, numberPut,
 use Rattle.saved.specs.RoundTrip.{reloadedAnswer}
 use Rattle.saved.specs.Save.{bufferAfter, putAfter, saveRefusal, savedBytes}
 use Rattle.scripted.specs.KeptRows.{form4Saved}
-use Rattle.scripted.specs.Packs.{bench, everySet, keptCharging, keptDischarging, keptForm4, noneSet}
+use Rattle.scripted.specs.Packs.{bench, everySet, keptCharging, keptDischarging, keptForm1, keptForm4, noneSet}
 use Rattle.scripted.specs.Script.{started}
 
 -- the ten getters, of any bytes
@@ -168,6 +171,14 @@ pub record PartRows : Type 0 where
   pub store-mode : stored 1 0x55 (record { mode = 0xDA; ar = 0x1278 }) ≡ record { mode = 0x55; ar = 0x1278 }
   pub store-low : stored 2 0x34 (record { mode = 0xDA; ar = 0x1278 }) ≡ record { mode = 0xDA; ar = 0x1234 }
   pub store-high : stored 3 0x56 (record { mode = 0xDA; ar = 0x1278 }) ≡ record { mode = 0xDA; ar = 0x5678 }
+  pub store-mode-history : hostAfter 1 0x55 (record { mode = 0xDA; ar = 0x1278 }) ≡ record { mode = 0x55; ar = 0x1278 }
+  pub store-low-history : hostAfter 2 0x34 (record { mode = 0xDA; ar = 0x1278 }) ≡ record { mode = 0xDA; ar = 0x1234 }
+  pub store-high-history : hostAfter 3 0x56 (record { mode = 0xDA; ar = 0x1278 }) ≡ record { mode = 0xDA; ar = 0x5678 }
+  -- the history's counts, and where they stop
+  pub rests-counted : restCount (record { rests = 5; cycles = 7; drain = 9 }) ≡ 5
+  pub rests-stop : restCount (record { rests = 4_294_967_296; cycles = 7; drain = 9 }) ≡ 4_294_967_295
+  pub cycles-counted : cycleCount (record { rests = 5; cycles = 7; drain = 9 }) ≡ 7
+  pub cycles-stop : cycleCount (record { rests = 5; cycles = 65_536; drain = 9 }) ≡ 65_535
   -- no command bit, and no command
   pub no-bit : highestCommandBit 0xC4 ≡ 8
   pub no-command : commandOf (Decision.Refused 9) ≡ 0
@@ -190,6 +201,7 @@ pub record PartRows : Type 0 where
   pub put-55 : putAfter (started everySet) (replicate 55 7) ≡ everySet
   pub reload-0 : (reloadedAnswer (started everySet)) .number ≡ 0
   pub reload-14 : (reloadedAnswer refused) .number ≡ 14
+  pub put-head : headed bench ≡ 5 ∷ (bench ++ replicate 44 0)
   pub put-parts : putTogether (started keptDischarging) 0x06 ≡ keptDischarging
   pub put-parts-charging : putTogether (started keptCharging) 0x95 ≡ keptCharging
   -- ---- loading: the form that a first byte tells, SI of form 1 with S0 310, bytes of another length
@@ -199,13 +211,27 @@ pub record PartRows : Type 0 where
   pub told-4 : toldBy 4 ≡ record { number = 4; length = 53 }
   pub told-5 : toldBy 5 ≡ record { number = 5; length = 55 }
   pub told-0 : toldBy 0 ≡ record { number = 5; length = 55 }
+  pub told-none : (formOf []) .number ≡ 5
   pub units-620 : heldFits 1 310 620 ≡ true
   pub units-621 : heldFits 1 310 621 ≡ false
   pub sixteenths-any : heldFits 2 310 65_535 ≡ true
+  pub form-0-any : heldFits 0 310 621 ≡ true
+  pub form-1-621 : standbyFits form1 (set (set keptForm1 29 0x6D) 30 0x02) ≡ false
+  pub form-1-620 : standbyFits form1 (set (set keptForm1 29 0x6C) 30 0x02) ≡ true
+  pub carried-0 : carriedStandby 0 620 ≡ 620
   pub carried-1 : carriedStandby 1 620 ≡ 9_920
   pub carried-2 : carriedStandby 2 620 ≡ 620
   pub decoded-55 : savedBytes (decodedGauge keptDischarging) ≡ keptDischarging
   pub decoded-54 : savedBytes (decodedGauge (take 54 keptDischarging)) ≡ 5 ∷ replicate 54 0
+  -- 55 bytes that say form 4 or form 6
+  pub newest-4 : (answerIn newest (set everySet 0 4)) .number ≡ 14
+  pub newest-6 : (answerIn newest (set everySet 0 6)) .number ≡ 14
+  -- two bytes as a current: 1, the greatest, the least and −1
+  pub pair-1 : Pair.currentOf 1 ≡ record { charging = true; magnitude = 1 }
+  pub pair-32767 : Pair.currentOf 32_767 ≡ record { charging = true; magnitude = 32_767 }
+  pub pair-32768 : Pair.currentOf 32_768 ≡ record { charging = false; magnitude = 32_768 }
+  pub pair-65535 : Pair.currentOf 65_535 ≡ record { charging = false; magnitude = 1 }
+  pub rejected-ten : refused .configuration ≡ replicate 10 0
   pub rejected-14 : rejectedAnswer .number ≡ 14
   pub rejected-bytes : savedBytes refused ≡ 5 ∷ (replicate 38 0 ++ (0x44 ∷ 0x10 ∷ replicate 14 0))
   -- a field that the form has not stands behind all others, without a byte
@@ -233,6 +259,9 @@ pub record PartRows : Type 0 where
   -- a window on an older form is 14, also with a voltage that is 4; on the newest it is 4
   pub window-14 : callNumber keptForm4 (called 2_599 1_192) ≡ 14
   pub window-4 : callNumber everySet (called 2_599 1_192) ≡ 4
+  -- whatever a call would answer for the gauge of rejected bytes
+  pub call-14 : callNumber keptForm4 (λ g. record { number = 3; gauge = g }) ≡ 14
+  pub look-14 : lookNumber keptForm4 (λ g. 3) ≡ 14
   pub window-14-kept : callBytes keptForm4 (called 3_600 1_192) ≡ keptForm4
   pub window-4-kept : callBytes everySet (called 2_599 1_192) ≡ everySet
   -- what is kept of an answer: its number, then 13; MODE, AR low and AR high stand at 39, 37 and 38
