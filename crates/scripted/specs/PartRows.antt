@@ -81,6 +81,11 @@ putTogether g flags =
     (numberPut Flags flags
     (hostPut (g .host) (samplePut (g .sample) (numberPut Sixteenths (g .standby) (chargePut (g .charge) (headed (g .configuration)))))))
 
+-- so many bytes, each three more than the one before it
+abbrev spread : ℕ → List ℕ
+spread zero = []
+spread (suc k) = spread k ++ (3 * k + 1) ∷ []
+
 -- a window on the bytes: 14 comes first, and a refusal leaves them
 abbrev called : ℕ → ℕ → Gauge → Answer
 called v t g = windowCall (pos 0) (pos v) (pos t) g
@@ -307,10 +312,20 @@ pub record PartRows : Type 0 where
   pub run-at-none : runAt newest noneSet ≡ record { vdq = false; dcr = 0 }
   pub part-of-learned : partOfLearned (pos 3_700) (begun (started keptDischarging)) ≡ 14_441
   pub counts-held : countsHeld (begun (started keptDischarging)) ≡ 9_266
-  -- the places of the first 41 bytes: SI 0x2357 and 281, the count, CYCT and the drain as they stand in the bytes of `Packs`
-  pub places-41-drawn : savedBytes (gaugeOf41 keptForm4 0x2357 (counts 0xCDEF 0x0153 0x0468_ACE0_2468)) ≡ form4Saved
-  pub places-41-charged : savedBytes (gaugeOf41 keptCharging 281 (counts 0x0102_0304 0x0B0D 0x12_3456_789A)) ≡ keptCharging
+  -- the places of the first 41 bytes, of bytes that differ at each place: 3 × place + 1
+  pub places-apart : gaugeOf41 (spread 55) 7 (counts 8 9 10)
+      ≡ record {
+        configuration = 4 ∷ 7 ∷ 10 ∷ 13 ∷ 16 ∷ 19 ∷ 22 ∷ 25 ∷ 28 ∷ 31 ∷ [];
+        charge = record { held = 0x3734_312E_2B28_2522; lmd = 0x5552; run = record { vdq = false; dcr = 0x4F4C_4946_4340_3D3A } };
+        sample = record { current = record { charging = true; magnitude = 0x615E }; voltage = 0x6764; temperature = 0x6D6A };
+        standby = 7;
+        flags = record { ci = true; edv1 = false; edvf = true };
+        host = record { mode = 0x76; ar = 0x7370 };
+        counters = record { rests = 8; cycles = record { cyct = 9; drain = 10 } };
+      }
   -- two windows of rest and a start between them: the count is two more, 0x04 and 0x03 0x02 0x01 behind it; c is 0, CHGS clear
   pub steps-calls : length (callsOf steps) ≡ 2
   pub steps-count : take 4 (drop 41 (bytesAfterSteps steps keptCharging)) ≡ 0x06 ∷ 0x03 ∷ 0x02 ∷ 0x01 ∷ []
+  -- bytes that are rejected are not converted, and the handset's new buffer stays zeros
+  pub steps-rejected : bytesAfterSteps (start ∷ []) (take 54 everySet) ≡ replicate 55 0
   pub steps-older : take 4 (drop 41 (bytesAfterSteps (start ∷ steps) keptForm4)) ≡ 0xF1 ∷ 0xCD ∷ 0x00 ∷ 0x00 ∷ []

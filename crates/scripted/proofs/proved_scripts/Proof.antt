@@ -374,6 +374,9 @@ returns c =
         differing-printed = refl;
         differing-fed = refl;
         differing-parts = refl;
+        beside-printed = refl;
+        beside-fed = refl;
+        beside-parts = refl;
       };
       parts = record {
         number-past = refl;
@@ -547,10 +550,10 @@ returns c =
         run-at-none = refl;
         part-of-learned = refl;
         counts-held = refl;
-        places-41-drawn = refl;
-        places-41-charged = refl;
+        places-apart = refl;
         steps-calls = refl;
         steps-count = refl;
+        steps-rejected = refl;
         steps-older = refl;
       };
     }
