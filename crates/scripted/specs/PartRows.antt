@@ -7,7 +7,11 @@ use mathlib.Core.Path.{_≡_}
 use Prim.Native.Nat.{ℕ, zero, suc, _+_, _-_, _*_}
 use lib.IntN.{pos, negsuc}
 use lib.ListN.{drop, length, replicate, set, take}
-use Rattle.bench_output.specs.declared.output.Output.the-variants.{Refused}
+use Rattle.bench_feed.specs.Feed as Bench
+use Rattle.bench_feed.specs.Feed.{isEnded}
+use Rattle.bench_feed.specs.First.{namesFed}
+use Rattle.bench_feed.specs.Input.{fedAll}
+use Rattle.bench_output.specs.declared.output.Output.the-variants as Output
 use Rattle.bench_window.specs.Shown.{registersOutput}
 use Rattle.charge.specs.Charge.{emptyStop}
 use Rattle.charge.specs.Step.{leakedAtOnce}
@@ -40,6 +44,8 @@ use Rattle.history.specs.Claim.{begun}
 use Rattle.history.specs.Counts.{cycleCount, restCount}
 use Rattle.history.specs.History.{hostAfter}
 use Rattle.host.specs.Host.{stored}
+use Rattle.lines.specs.Put.{placeAfter, putAt}
+use Rattle.lines.specs.Word.{grown}
 use Rattle.load.specs.EveryForm.{carriedStandby, heldFits, toldBy}
 use Rattle.load.specs.Load.{answerIn, decodedGauge, rejectedAnswer, standbyFits}
 use Rattle.numbers.specs.Little.{bytesAt, numberAt}
@@ -57,6 +63,7 @@ use Rattle.saved.specs.Save.{bufferAfter, putAfter, saveRefusal, savedBytes}
 use Rattle.scripted.specs.KeptRows.{form4Saved}
 use Rattle.scripted.specs.Packs.{bench, everySet, keptCharging, keptDischarging, keptForm1, keptForm4, noneSet}
 use Rattle.scripted.specs.Script.{started}
+use Rattle.scripted.specs.TextRows.{differingInput, paperInput}
 
 -- the ten getters, of any bytes
 abbrev tenOf : List ℕ → List ℕ
@@ -156,8 +163,21 @@ pub record PartRows : Type 0 where
   pub all-14 : (allAnswer refused) .number ≡ 14
   pub all-0 : (allAnswer (started keptDischarging)) .number ≡ 0
   pub all-mode : take 2 ((allAnswer (started keptDischarging)) .bytes) ≡ 0x00 ∷ 0xDA ∷ []
-  -- what the bench program prints of a rejected gauge
-  pub shown-14 : registersOutput refused ≡ Refused 14
+  -- what the bench program prints of a rejected gauge, and of one with LMD 0xA12D: NAC 9,266, 100 × 9,266 / 41,261 = 22.5
+  pub shown-14 : registersOutput refused ≡ Output.Refused 14
+  pub shown-22 : registersOutput (started keptDischarging) ≡ Output.Registers 9_266 41_261 22 0x06
+  -- a text of two bytes with room for three asked, at the last place that has it and one past it
+  pub put-last : putAt 3 (1 ∷ 2 ∷ []) (replicate 5 7) 2 ≡ 7 ∷ 7 ∷ 1 ∷ 2 ∷ 7 ∷ []
+  pub put-past : putAt 3 (1 ∷ 2 ∷ []) (replicate 5 7) 3 ≡ replicate 5 7
+  pub place-last : placeAfter 3 (1 ∷ 2 ∷ []) (replicate 5 7) 2 ≡ 4
+  pub place-past : placeAfter 3 (1 ∷ 2 ∷ []) (replicate 5 7) 3 ≡ 3
+  -- a magnitude past both ends of the range, the bytes of the first line, and where the program has ended
+  pub grown-past : grown 1_000_000_000 9 ≡ 2_147_483_649
+  pub names-first : namesFed 0 99 ≡ 1
+  pub names-more : namesFed 5 32 ≡ 6
+  pub ended-start : isEnded Bench.start ≡ false
+  pub ended-listed : isEnded (fedAll Bench.start paperInput) ≡ false
+  pub ended-other : isEnded (fedAll Bench.start differingInput) ≡ true
   -- the 301 entries, worked out in whole numbers from the nine points; the rule beside an entry and past the table
   pub table : entriesSum 301 ≡ 24_732_285
   pub table-last : entryVoltage (entries - 1) ≡ 4_200

@@ -1,7 +1,7 @@
 -- Each row holds by computation. Assumes nothing.
 use mathlib.Core.Path.{refl}
 use Rattle.bench_feed.specs.Feed as Feed
-use Rattle.bench_feed.specs.Feed.{fedAt, lastOutput, lastOutputAt}
+use Rattle.bench_feed.specs.Feed.{endedAt, fedAt, isEnded, lastOutput, lastOutputAt}
 use Rattle.bench_feed.specs.First.{afterFirst, fedFirst, firstOutput, namesFed}
 use Rattle.bench_feed.specs.Input.{fedAll, printedAt, printedFrom, printedOf}
 use Rattle.bench_feed.specs.Listed.{fedListed, lineOutput}
@@ -51,6 +51,7 @@ use Rattle.host.specs.Host.{commanded, commandsCleared, fullIf, hostObeyed, ini
 use Rattle.lines.specs.Decimal.{decimal, decimalWithin}
 use Rattle.lines.specs.Line.{joined, line, three, words}
 use Rattle.lines.specs.Number.{allDigits, number, ranged, unsigned, valueFrom}
+use Rattle.lines.specs.Put.{placeAfter, putAt}
 use Rattle.lines.specs.Reading as Reading
 use Rattle.lines.specs.Reading.{goesOn, readAs, spaced}
 use Rattle.lines.specs.Text.{linesOf}
@@ -82,25 +83,26 @@ use Rattle.scripted.proofs.proved_scripts.Statement.{statement}
 use Rattle.scripted.proofs.proved_scripts.Tie as tie
 
 returns : tie.Need-returns
-unfolding Feed.fed fedAt lastOutput lastOutputAt afterFirst fedFirst firstOutput namesFed fedAll printedAt printedFrom printedOf fedListed
-    lineOutput linesPrinted listPrinted printed sameBytes refusedText registersText textOf answerOutput lineAnswered registersOutput chargeAccepted
-    emptied filled heldMoved leaked moved openedCharge runMoved taught withoutRun chargeObeyed writtenLmd writtenNac rested restedOnce leakedAtOnce
-    commandOf decide decide56 decideA9 highestCommandBit isReset adcgn dcmp dt minutes offsetTerm rateTerm dcmpUnaged dcompTaken openedMode
-    countersAccepted countersMoved countersObeyed countersRested openedCounters cyclesAccepted cyclesMoved cyctAfter drainWith noCycles bytesAfter
-    calledBytes calledNumber bytesAfterSteps callsOf stepBytes distanceAfter distanceFrom estimateAfter estimateRefusal estimated flagsByte flagsFit
-    flagsOf atEdv1 atEdvf atTaught clearedIf flagsObeyed laidOut inNewest widened currentOf signedPair accepted keyAnswer restAnswer storedAt
-    windowAnswer writeAnswer writeRefusal written decided obeyed openAnswer openRefusal opened rest reachedIn summed window band leak leakRate
-    reached weight learned restLeak drained runAccepted unlessPassed callBytes callNumber convertBytes convertNumber lookLeaves lookNumber openBytes
-    openNumber hostPlace keptBytes keptNumber afterEmptyStop afterFull afterRest afterRestWindow afterRun afterSums afterVoltage afterWindow leakNow
-    after gaugeAfter numberOf begun gains unlessAbove afterCall afterCalls afterCommand afterKey afterWork afterWrite hostAfter openedHistory
-    refusalOf chargeOf countedCurrent qualifies reachesE1 reachesEdvf reachesFull stopsEmpty commanded commandsCleared fullIf hostObeyed initCleared
-    openedHost stored decimal decimalWithin joined line three words allDigits number ranged unsigned valueFrom Reading.fed goesOn readAs spaced
-    linesOf digitFed firstFed grown wordFed wordNumber carriedStandby heldFits loadAnswer acceptedAnswer answerIn decodedGauge formFits loaded
-    loadedCharge loadedCounters loadedHost loadedSample ofLength rejectedAnswer rule inTable permille commandAfter previewRefusal Preview.replyAfter
-    endingOf mayTeach isFull chargeEnded chargeReached filledIf flagsEnded reachedBy lookUp register registersFrom rows placeRefusal readRefusal
-    Reading′.replyAfter artte stte tte ttf cac fcac reduction rsoc allAnswer charge counted discharge zeroOrWithin between currentInRange
-    valueBetween currentAccepted noSample sampleAccepted sampleReset sampleRested chargePut countersPut headed hostPut samplePut reloadedAnswer
-    bufferAfter fieldBytes putAfter saveRefusal savedBytes averaged shown standbyAccepted standbyReset
+unfolding endedAt Feed.fed fedAt isEnded lastOutput lastOutputAt afterFirst fedFirst firstOutput namesFed fedAll printedAt printedFrom printedOf
+    fedListed lineOutput linesPrinted listPrinted printed sameBytes refusedText registersText textOf answerOutput lineAnswered registersOutput
+    chargeAccepted emptied filled heldMoved leaked moved openedCharge runMoved taught withoutRun chargeObeyed writtenLmd writtenNac rested
+    restedOnce leakedAtOnce commandOf decide decide56 decideA9 highestCommandBit isReset adcgn dcmp dt minutes offsetTerm rateTerm dcmpUnaged
+    dcompTaken openedMode countersAccepted countersMoved countersObeyed countersRested openedCounters cyclesAccepted cyclesMoved cyctAfter drainWith
+    noCycles bytesAfter calledBytes calledNumber bytesAfterSteps callsOf stepBytes distanceAfter distanceFrom estimateAfter estimateRefusal
+    estimated flagsByte flagsFit flagsOf atEdv1 atEdvf atTaught clearedIf flagsObeyed laidOut inNewest widened currentOf signedPair accepted
+    keyAnswer restAnswer storedAt windowAnswer writeAnswer writeRefusal written decided obeyed openAnswer openRefusal opened rest reachedIn summed
+    window band leak leakRate reached weight learned restLeak drained runAccepted unlessPassed callBytes callNumber convertBytes convertNumber
+    lookLeaves lookNumber openBytes openNumber hostPlace keptBytes keptNumber afterEmptyStop afterFull afterRest afterRestWindow afterRun afterSums
+    afterVoltage afterWindow leakNow after gaugeAfter numberOf begun gains unlessAbove afterCall afterCalls afterCommand afterKey afterWork
+    afterWrite hostAfter openedHistory refusalOf chargeOf countedCurrent qualifies reachesE1 reachesEdvf reachesFull stopsEmpty commanded
+    commandsCleared fullIf hostObeyed initCleared openedHost stored decimal decimalWithin joined line three words allDigits number ranged unsigned
+    valueFrom placeAfter putAt Reading.fed goesOn readAs spaced linesOf digitFed firstFed grown wordFed wordNumber carriedStandby heldFits
+    loadAnswer acceptedAnswer answerIn decodedGauge formFits loaded loadedCharge loadedCounters loadedHost loadedSample ofLength rejectedAnswer rule
+    inTable permille commandAfter previewRefusal Preview.replyAfter endingOf mayTeach isFull chargeEnded chargeReached filledIf flagsEnded reachedBy
+    lookUp register registersFrom rows placeRefusal readRefusal Reading′.replyAfter artte stte tte ttf cac fcac reduction rsoc allAnswer charge
+    counted discharge zeroOrWithin between currentInRange valueBetween currentAccepted noSample sampleAccepted sampleReset sampleRested chargePut
+    countersPut headed hostPut samplePut reloadedAnswer bufferAfter fieldBytes putAfter saveRefusal savedBytes averaged shown standbyAccepted
+    standbyReset
 returns c =
     record {
       registers = record {
@@ -377,6 +379,12 @@ returns c =
         beside-printed = refl;
         beside-fed = refl;
         beside-parts = refl;
+        tabbed-printed = refl;
+        tabbed-fed = refl;
+        tabbed-parts = refl;
+        cut-printed = refl;
+        cut-fed = refl;
+        cut-parts = refl;
       };
       parts = record {
         number-past = refl;
@@ -420,6 +428,17 @@ returns c =
         all-0 = refl;
         all-mode = refl;
         shown-14 = refl;
+        shown-22 = refl;
+        put-last = refl;
+        put-past = refl;
+        place-last = refl;
+        place-past = refl;
+        grown-past = refl;
+        names-first = refl;
+        names-more = refl;
+        ended-start = refl;
+        ended-listed = refl;
+        ended-other = refl;
         table = refl;
         table-last = refl;
         table-out = refl;
