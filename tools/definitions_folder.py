@@ -104,7 +104,7 @@ def as_theorems(text, wanted):
 def by_test(claim):
     """A row whose answer is a list, as a test: that two long lists differ is found at once, and is not printed."""
     asked, answer = re.split(r"\s+≡ ", claim, maxsplit=1)
-    if not re.search(r"∷|^\[\]$|^\w+(?:Numbers|Output|Saved)$", answer):
+    if answer.startswith("record") or not re.search(r"∷|^\[\]$|^\w+(?:Numbers|Output|Saved)$", answer):
         return claim
     kind = "integers" if re.search(r"pos|negsuc", answer) else "numbers"
     return f"Lists.{kind} ({asked}) ({answer}) ≡ Answer.true"

@@ -3,6 +3,7 @@
 -- only; assumes nothing.
 use mathlib.Core.Bool.{Bool, true, false, cond}
 use mathlib.Core.List.{List, [], _∷_, _++_}
+use mathlib.Core.Option.{none, some}
 use mathlib.Core.Path.{_≡_}
 use Prim.Native.Nat.{ℕ, zero, suc, _+_, _-_, _*_}
 use lib.IntN.{pos, negsuc}
@@ -22,6 +23,7 @@ use Rattle.command.specs.declared.command.Decision.the-variants as Decision
 use Rattle.compensation.specs.Unaged.{dcmpUnaged}
 use Rattle.configuration.specs.BenchPack.{benchPack}
 use Rattle.configuration.specs.Configuration.{dcomp, dcompTaken, dmfsd, id3, ilmd, islc, pkcfg, sedv1, sedvf, taper, tcomp}
+use Rattle.configuration.specs.Terms.{Terms, termsOf}
 use Rattle.drive.specs.Claim.{countsHeld, partOfLearned, runAt}
 use Rattle.drive.specs.OlderForms.{counts, gaugeOf41}
 use Rattle.drive.specs.Update.{Step, bytesAfterSteps, callsOf, make, start}
@@ -39,10 +41,13 @@ use Rattle.grains.specs.Rest.{restLeak}
 use Rattle.handset.specs.Calls.{callBytes, callNumber, convertBytes, convertNumber, estimateCounts, estimateDistance, estimateNumber, openBytes, openNumber}
 use Rattle.handset.specs.Calls.{lookNumber, previewCommand, previewNumber, previewReply, readNumber, readReply, windowCall}
 use Rattle.handset.specs.Keep.{hostPlace, keptBytes, keptNumber}
+use Rattle.history.specs.Account.{afterSums, fixing}
 use Rattle.history.specs.Call.{Call, rest}
 use Rattle.history.specs.Claim.{begun}
 use Rattle.history.specs.Counts.{cycleCount, restCount}
+use Rattle.history.specs.Drain.{unlessAbove}
 use Rattle.history.specs.History.{hostAfter}
+use Rattle.history.specs.Tests.{qualifies, reachesFull, stopsEmpty}
 use Rattle.host.specs.Host.{stored}
 use Rattle.lines.specs.Put.{placeAfter, putAt}
 use Rattle.lines.specs.Word.{grown}
@@ -64,6 +69,9 @@ use Rattle.scripted.specs.KeptRows.{form4Saved}
 use Rattle.scripted.specs.Packs.{bench, everySet, keptCharging, keptDischarging, keptForm1, keptForm4, noneSet}
 use Rattle.scripted.specs.Script.{started}
 use Rattle.scripted.specs.TextRows.{differingInput, paperInput}
+
+abbrev benchTerms : Terms
+benchTerms = termsOf benchPack
 
 -- the ten getters, of any bytes
 abbrev tenOf : List ℕ → List ℕ
@@ -199,6 +207,22 @@ pub record PartRows : Type 0 where
   pub store-mode-history : hostAfter 1 0x55 (record { mode = 0xDA; ar = 0x1278 }) ≡ record { mode = 0x55; ar = 0x1278 }
   pub store-low-history : hostAfter 2 0x34 (record { mode = 0xDA; ar = 0x1278 }) ≡ record { mode = 0xDA; ar = 0x1234 }
   pub store-high-history : hostAfter 3 0x56 (record { mode = 0xDA; ar = 0x1278 }) ≡ record { mode = 0xDA; ar = 0x5678 }
+  pub store-low-history-high : hostAfter 2 0x34 (record { mode = 0xDA; ar = 0xFF01 }) ≡ record { mode = 0xDA; ar = 0xFF34 }
+  -- the history's own tests on the bench pack: full by taper up to 32 units from 4,100 mV on, by the sum from 138,240,000,000 on
+  pub full-taper : reachesFull benchTerms (pos 32) (pos 4_100) (pos 0) 1_024 ≡ true
+  pub full-low : reachesFull benchTerms (pos 32) (pos 4_099) (pos 0) 1_024 ≡ false
+  pub full-heavy : reachesFull benchTerms (pos 33) (pos 4_100) (pos 0) 1_024 ≡ false
+  pub full-sum : reachesFull benchTerms (pos 33) (pos 3_700) (pos 138_240_000_000) 1_024 ≡ true
+  pub full-short : reachesFull benchTerms (pos 33) (pos 3_700) (pos 138_239_999_999) 1_024 ≡ false
+  -- empty at 0 and not at 1, with a discharge alone; a run qualifies from 1,112 on; a run goes on up to 65,535 counts, and ends with one unit charged
+  pub empty-at : stopsEmpty (negsuc 0) (pos 0) ≡ true
+  pub empty-above : stopsEmpty (negsuc 0) (pos 1) ≡ false
+  pub empty-idle : stopsEmpty (pos 0) (pos 0) ≡ false
+  pub qualifies-1112 : qualifies benchTerms (negsuc 20) (pos 1_112) ≡ true
+  pub qualifies-1111 : qualifies benchTerms (negsuc 20) (pos 1_111) ≡ false
+  pub run-longest : unlessAbove (some 8_847_225_000_000) ≡ some 8_847_225_000_000
+  pub run-passed : unlessAbove (some 8_847_225_000_001) ≡ none
+  pub run-charged : (afterSums benchTerms (pos 1) (pos 1_192) (fixing 5 7 (some 9))) .run ≡ none
   -- the history's counts, and where they stop
   pub rests-counted : restCount (record { rests = 5; cycles = 7; drain = 9 }) ≡ 5
   pub rests-stop : restCount (record { rests = 4_294_967_296; cycles = 7; drain = 9 }) ≡ 4_294_967_295
@@ -212,6 +236,8 @@ pub record PartRows : Type 0 where
   pub key-held : (keyAnswer (started everySet) 0xA9) .gauge .charge .held ≡ 94_500_000_000
   -- MODE 0x6B obeys WRTNAC, which ends a run; AR's low byte 0xD7 would be DONE
   pub key-mode : (keyAnswer (started keptCharging) 0xA9) .gauge .charge .run .vdq ≡ false
+  -- WRTLMD with AR 0
+  pub key-11 : (keyAnswer (started (set (set (set everySet 37 0) 38 0) 39 0x01)) 0x56) .number ≡ 11
   pub key-9 : (keyAnswer (started noneSet) 0xA9) .number ≡ 9
   pub key-kept : savedBytes ((keyAnswer (started noneSet) 0xA9) .gauge) ≡ noneSet
   -- ---- saving: 14, then 13
