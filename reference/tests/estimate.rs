@@ -37,7 +37,7 @@ fn the_nine_points() {
     }
 }
 
-/// Each entry times its place counted from 1, as the rows of the definitions have it (`crates/scripted/specs/PartRows.antt`).
+/// Each entry times its place counted from 1, as the rows of the definitions have it (`crates/scripted/specs/RuleRows.antt`).
 #[test]
 fn the_table_as_a_whole() {
     assert_eq!((0..301).map(|k| (k + 1) * permille(3_000 + 4 * k)).sum::<i32>(), 24_732_285);

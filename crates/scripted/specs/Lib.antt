@@ -1,9 +1,13 @@
+pub mod BenchRows
 pub mod CallRows
 pub mod EventRows
+pub mod HandedRows
+pub mod HistoryRows
 pub mod KeptRows
 pub mod Packs
-pub mod PartRows
 pub mod RegisterRows
+pub mod RuleRows
+pub mod SavedRows
 pub mod Script
 pub mod Scripted
 pub mod TextRows

@@ -1,0 +1,104 @@
+-- What saving and loading are put together from: the parts of the bytes, the form that a first byte tells, older bytes in the places of the
+-- newest. Each number by hand, from the papers and from the bytes of `Packs`. Definitions only; assumes nothing.
+use mathlib.Core.Bool.{true, false}
+use mathlib.Core.List.{List, [], _∷_, _++_}
+use mathlib.Core.Path.{_≡_}
+use Prim.Native.Nat.{ℕ, zero, suc, _+_, _*_}
+use lib.ListN.{length, replicate, set, take}
+use Rattle.drive.specs.OlderForms.{counts, gaugeOf41}
+use Rattle.form.specs.Form.{Flags, Sixteenths, Standby, form1, form4, formOf, newest, placeOf, widthOf}
+use Rattle.form.specs.InNewest.{inNewest, placesOf}
+use Rattle.form.specs.Signed as Pair
+use Rattle.gauge.specs.declared.state.Gauge.{Gauge}
+use Rattle.load.specs.EveryForm.{carriedStandby, heldFits, toldBy}
+use Rattle.load.specs.Load.{answerIn, decodedGauge, rejectedAnswer, standbyFits}
+use Rattle.sample.specs.Range.{current, currentOf, temperature, voltage}
+use Rattle.saved.specs.Put.{chargePut, countersPut, headed, hostPut, numberPut, samplePut}
+use Rattle.saved.specs.RoundTrip.{reloadedAnswer}
+use Rattle.saved.specs.Save.{bufferAfter, putAfter, saveRefusal, savedBytes}
+use Rattle.scripted.specs.KeptRows.{form4Saved}
+use Rattle.scripted.specs.Packs.{bench, everySet, keptCharging, keptDischarging, keptForm1, keptForm4}
+use Rattle.scripted.specs.Script.{started}
+
+-- a gauge value that 14 refuses: the opened one of ten bytes 0
+abbrev refused : Gauge
+refused = rejectedAnswer .gauge
+
+-- its parts put among zeros, in the order of the code
+abbrev putTogether : Gauge → ℕ → List ℕ
+putTogether g flags =
+    countersPut (g .counters)
+    (numberPut Flags flags
+    (hostPut (g .host) (samplePut (g .sample) (numberPut Sixteenths (g .standby) (chargePut (g .charge) (headed (g .configuration)))))))
+
+-- so many bytes, each three more than the one before it
+abbrev spread : ℕ → List ℕ
+spread zero = []
+spread (suc k) = spread k ++ (3 * k + 1) ∷ []
+
+pub record SavedRows : Type 0 where
+  -- saving: 14, then 13
+  pub save-14 : saveRefusal refused 54 ≡ 14
+  pub save-54 : saveRefusal (started everySet) 54 ≡ 13
+  pub save-56 : saveRefusal (started everySet) 56 ≡ 13
+  pub save-0 : saveRefusal (started everySet) 55 ≡ 0
+  pub buffer-full : bufferAfter (started everySet) (replicate 55 7) ≡ everySet
+  pub buffer-54 : bufferAfter (started everySet) (replicate 54 7) ≡ replicate 54 7
+  pub buffer-14 : bufferAfter refused (replicate 55 7) ≡ replicate 55 7
+  pub put-54 : putAfter (started everySet) (replicate 54 7) ≡ replicate 54 7
+  pub put-55 : putAfter (started everySet) (replicate 55 7) ≡ everySet
+  pub reload-0 : (reloadedAnswer (started everySet)) .number ≡ 0
+  pub reload-14 : (reloadedAnswer refused) .number ≡ 14
+  pub put-head : headed bench ≡ 5 ∷ (bench ++ replicate 44 0)
+  pub put-parts : putTogether (started keptDischarging) 0x06 ≡ keptDischarging
+  pub put-parts-charging : putTogether (started keptCharging) 0x95 ≡ keptCharging
+  -- loading: the form that a first byte tells, SI of form 1 with S0 310, bytes of another length
+  pub told-1 : toldBy 1 ≡ record { number = 1; length = 41 }
+  pub told-2 : toldBy 2 ≡ record { number = 2; length = 41 }
+  pub told-3 : toldBy 3 ≡ record { number = 3; length = 43 }
+  pub told-4 : toldBy 4 ≡ record { number = 4; length = 53 }
+  pub told-5 : toldBy 5 ≡ record { number = 5; length = 55 }
+  pub told-0 : toldBy 0 ≡ record { number = 5; length = 55 }
+  pub told-none : (formOf []) .number ≡ 5
+  pub units-620 : heldFits 1 310 620 ≡ true
+  pub units-621 : heldFits 1 310 621 ≡ false
+  pub sixteenths-any : heldFits 2 310 65_535 ≡ true
+  pub form-0-any : heldFits 0 310 621 ≡ true
+  pub form-1-621 : standbyFits form1 (set (set keptForm1 29 0x6D) 30 0x02) ≡ false
+  pub form-1-620 : standbyFits form1 (set (set keptForm1 29 0x6C) 30 0x02) ≡ true
+  pub carried-0 : carriedStandby 0 620 ≡ 620
+  pub carried-1 : carriedStandby 1 620 ≡ 9_920
+  pub carried-2 : carriedStandby 2 620 ≡ 620
+  pub decoded-55 : savedBytes (decodedGauge keptDischarging) ≡ keptDischarging
+  pub decoded-54 : savedBytes (decodedGauge (take 54 keptDischarging)) ≡ 5 ∷ replicate 54 0
+  -- 55 bytes that say form 4 or form 6
+  pub newest-4 : (answerIn newest (set everySet 0 4)) .number ≡ 14
+  pub newest-6 : (answerIn newest (set everySet 0 6)) .number ≡ 14
+  -- two bytes as a current: 1, the greatest, the least and −1
+  pub pair-1 : Pair.currentOf 1 ≡ record { charging = true; magnitude = 1 }
+  pub pair-32767 : Pair.currentOf 32_767 ≡ record { charging = true; magnitude = 32_767 }
+  pub pair-32768 : Pair.currentOf 32_768 ≡ record { charging = false; magnitude = 32_768 }
+  pub pair-65535 : Pair.currentOf 65_535 ≡ record { charging = false; magnitude = 1 }
+  pub rejected-ten : refused .configuration ≡ replicate 10 0
+  pub rejected-14 : rejectedAnswer .number ≡ 14
+  pub rejected-bytes : savedBytes refused ≡ 5 ∷ (replicate 38 0 ++ (0x44 ∷ 0x10 ∷ replicate 14 0))
+  -- a field that the form has not stands behind all others, without a byte
+  pub place-none : placeOf Standby (newest .fields) ≡ 55
+  pub width-none : widthOf Standby (newest .fields) ≡ 0
+  -- form 4 in the places of form 5: two bytes 0 behind its count
+  pub places-41 : (placesOf 41) .number ≡ 2
+  pub places-43 : (placesOf 43) .number ≡ 3
+  pub places-53 : (placesOf 53) .number ≡ 4
+  pub places-55 : (placesOf 55) .number ≡ 5
+  pub in-newest : inNewest form4 keptForm4 ≡ set form4Saved 0 4
+  -- the places of the first 41 bytes, of bytes that differ at each place: 3 × place + 1
+  pub places-apart : gaugeOf41 (spread 55) 7 (counts 8 9 10)
+      ≡ record {
+        configuration = 4 ∷ 7 ∷ 10 ∷ 13 ∷ 16 ∷ 19 ∷ 22 ∷ 25 ∷ 28 ∷ 31 ∷ [];
+        charge = record { held = 0x3734_312E_2B28_2522; lmd = 0x5552; run = record { vdq = false; dcr = 0x4F4C_4946_4340_3D3A } };
+        sample = record { current = record { charging = true; magnitude = 0x615E }; voltage = 0x6764; temperature = 0x6D6A };
+        standby = 7;
+        flags = record { ci = true; edv1 = false; edvf = true };
+        host = record { mode = 0x76; ar = 0x7370 };
+        counters = record { rests = 8; cycles = record { cyct = 9; drain = 10 } };
+      }
