@@ -1,6 +1,6 @@
 -- 14, condition by condition of "Saved gauge" in paper 01 and of the fields that paper 02 adds: saved bytes that meet each exactly, and those bytes with
 -- one condition broken by the least amount. The places are the papers', the sums stand beside the rows. Definitions only; assumes nothing.
-use mathlib.Core.Bool.{Bool, true, false}
+use mathlib.Core.Bool.{true, false}
 use mathlib.Core.List.{List, [], _∷_, _++_}
 use mathlib.Core.Path.{_≡_}
 use Prim.Native.Nat.{ℕ}

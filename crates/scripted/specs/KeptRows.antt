@@ -4,7 +4,7 @@
 use mathlib.Core.List.{List, [], _∷_}
 use mathlib.Core.Path.{_≡_}
 use Prim.Native.Nat.{ℕ}
-use lib.IntN.{negsuc, pos}
+use lib.IntN.{pos}
 use Rattle.history.specs.Call.{rest, window}
 use Rattle.scripted.specs.Packs.{keptCharging, keptDischarging, keptForm1, keptForm2, keptForm3, keptForm4}
 use Rattle.scripted.specs.Script.{Repeated, begunOf, bytesOf, convertedOf, drawn, historyOf, registersOf, savedOf, _of_}
