@@ -143,15 +143,20 @@ def fields(text, found):
                     yield exchanged(text, values[one], values[two])
 
 
-def entries(text, found, begin, end):
+def entries(text, found, begin):
     """Two entries of a list, exchanged; of the register map, the addresses of two rows."""
-    depth, groups = 0, {}
+    opened, lists = [begin], {}
     for token, start, stop in found:
-        depth += {"(": 1, "{": 1, ")": -1, "}": -1}.get(token, 0)
-        if token == "∷":
-            groups.setdefault(depth, []).append((start, stop))
-    for marks in groups.values():
-        edges = [trimmed(text, begin, marks[0][0])] if depth == 0 else []
+        if token in "({":
+            opened.append(stop)
+        elif token in ")}":
+            opened.pop()
+        elif token in (";", "=", "++"):
+            opened[-1] = stop
+        elif token == "∷":
+            lists.setdefault(opened[-1], []).append((start, stop))
+    for first, marks in lists.items():
+        edges = [trimmed(text, first, marks[0][0])]
         edges += [trimmed(text, marks[k][1], marks[k + 1][0]) for k in range(len(marks) - 1)]
         for one, two in zip(edges, edges[1:]):
             if text[one[0]:one[1]].startswith("row "):
@@ -191,7 +196,7 @@ def imported(text):
     body = re.sub(r"--[^\n]*", "", text)
     for name, home in HOME.items():
         spelled = name if name.isalpha() else f"_{name}_"
-        if re.search(rf"(?<![^\s(]){re.escape(name)}(?![^\s)])", re.sub(r"^use .*$", "", body, flags=re.M)):
+        if re.search(rf"(?<![^\s(]){re.escape(name)}(?![^\s);])", re.sub(r"^use .*$", "", body, flags=re.M)):
             if not re.search(rf"^use {re.escape(home)}\.\{{[^}}]*(?<![^\s,{{]){re.escape(spelled)}(?![^\s,}}])", text, re.M):
                 text = re.sub(r"^use ", f"use {home}.{{{spelled}}}\nuse ", text, count=1, flags=re.M)
     return text
@@ -205,7 +210,7 @@ def wrong_in(text, known):
         for begin, end in clauses:
             found = tokens(text, begin, end)
             makers += [numerals(text, found), others(text, found), arguments(text, found), fields(text, found)]
-            makers += [entries(text, found, begin, end), projections(text, found, known)]
+            makers += [entries(text, found, begin), projections(text, found, known)]
         makers.append(exchanged(text, one, two) for one, two in zip(clauses, clauses[1:]))
         for maker in makers:
             for changed in maker:

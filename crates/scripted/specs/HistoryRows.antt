@@ -9,7 +9,7 @@ use Rattle.configuration.specs.Terms.{Terms, termsOf}
 use Rattle.drive.specs.Claim.{countsHeld, partOfLearned, runAt}
 use Rattle.form.specs.Form.{newest}
 use Rattle.history.specs.Account.{afterSums, fixing}
-use Rattle.history.specs.Claim.{begun}
+use Rattle.history.specs.Claim.{begun, runOf}
 use Rattle.history.specs.Counts.{cycleCount, restCount}
 use Rattle.history.specs.Drain.{unlessAbove}
 use Rattle.history.specs.History.{hostAfter}
@@ -47,6 +47,9 @@ pub record HistoryRows : Type 0 where
   pub cycles-counted : cycleCount (record { rests = 5; cycles = 7; drain = 9 }) ≡ 7
   pub cycles-stop : cycleCount (record { rests = 5; cycles = 65_536; drain = 9 }) ≡ 65_535
   -- what the claims take from bytes and from the history
+  -- VDQ and DCR of a run, and without one
+  pub run-of : runOf (some 9) ≡ record { vdq = true; dcr = 9 }
+  pub run-of-none : runOf none ≡ record { vdq = false; dcr = 0 }
   pub run-at : runAt newest keptDischarging ≡ record { vdq = true; dcr = 8_131_499_331_565 }
   pub run-at-none : runAt newest noneSet ≡ record { vdq = false; dcr = 0 }
   pub part-of-learned : partOfLearned (pos 3_700) (begun (started keptDischarging)) ≡ 14_441
