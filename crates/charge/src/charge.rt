@@ -2,8 +2,8 @@
 ghost use mathlib.Core.Path.{_≡_};
 ghost use Rattle.configuration.specs.Terms.{termsOf};
 ghost use Rattle.charge.specs.Charge as Spec;
-use configuration::configuration::Configuration;
 use configuration::configuration::design_capacity;
+use configuration::settings::Settings;
 use grains::grains::grains_of_counts;
 use grains::grains::grains_of_current;
 use grains::grains::saturating_difference;
@@ -41,10 +41,10 @@ fn held_moved(held: u64, current: Current) -> u64
 }
 
 impl Charge {
-    pub fn opened(configuration: Configuration) -> Charge
-        ensures { λ r. ⌜ r ≡ Spec.openedCharge (termsOf configuration) ⌝ }
+    pub fn opened(settings: Settings) -> Charge
+        ensures { λ r. ⌜ r ≡ Spec.openedCharge (termsOf settings) ⌝ }
     {
-        let lmd = design_capacity(configuration);
+        let lmd = design_capacity(settings);
         let run = Run::none();
         Charge { held: 0, lmd, run }
     }

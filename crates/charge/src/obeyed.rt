@@ -5,7 +5,7 @@ ghost use Rattle.configuration.specs.Terms.{termsOf};
 ghost use Rattle.charge.specs.Obeyed as Spec;
 use crate::charge::Charge;
 use command::command::Command;
-use configuration::configuration::Configuration;
+use configuration::settings::Settings;
 use grains::grains::grains_of_counts;
 use grains::run::Run;
 
@@ -38,14 +38,14 @@ impl Charge {
         Charge { held, lmd: ar, run }
     }
 
-    pub fn obeyed(self, command: Command, configuration: Configuration, ar: u16) -> Charge
-        ensures { λ r. ⌜ r ≡ Spec.chargeObeyed command (termsOf configuration) ar self ⌝ }
+    pub fn obeyed(self, command: Command, settings: Settings, ar: u16) -> Charge
+        ensures { λ r. ⌜ r ≡ Spec.chargeObeyed command (termsOf settings) ar self ⌝ }
     {
         match command {
             Command::Wrtnac => self.written_nac(ar),
             Command::Done => self.filled(),
             Command::Prst => self.without_run(),
-            Command::Frst => Charge::opened(configuration),
+            Command::Frst => Charge::opened(settings),
             Command::Wrtlmd => self.written_lmd(ar),
         }
     }

@@ -2,23 +2,23 @@
 ghost use mathlib.Core.Path.{_≡_};
 ghost use Prim.Native.Nat.{_*_, _≤_};
 ghost use Rattle.compensation.specs.Compensation as Spec;
-use configuration::configuration::Configuration;
 use configuration::configuration::cold_threshold;
 use configuration::configuration::dcgn;
 use configuration::configuration::dcoff;
 use configuration::configuration::gaf;
 use configuration::configuration::ilmd;
 use configuration::configuration::tcgn;
+use configuration::settings::Settings;
 
 // How far the temperature lies below the threshold, 0 where none was measured.
-pub fn dt(configuration: Configuration, temperature: u16) -> u16
-    ensures { λ r. ⌜ r ≡ Spec.dt configuration temperature ⌝ }
+pub fn dt(settings: Settings, temperature: u16) -> u16
+    ensures { λ r. ⌜ r ≡ Spec.dt settings temperature ⌝ }
     ensures range { λ r. ⌜ r ≤ 1_120 ⌝ }
 {
     if temperature == 0 {
         return 0;
     }
-    let threshold = cold_threshold(configuration);
+    let threshold = cold_threshold(settings);
     if threshold < temperature {
         return 0;
     }
@@ -26,36 +26,36 @@ pub fn dt(configuration: Configuration, temperature: u16) -> u16
 }
 
 // ADCGN in 32nds: DCGN as the cycles have raised it.
-fn adcgn(configuration: Configuration, cyct: u16) -> u32
-    ensures { λ r. ⌜ r ≡ Spec.adcgn configuration cyct ⌝ }
+fn adcgn(settings: Settings, cyct: u16) -> u32
+    ensures { λ r. ⌜ r ≡ Spec.adcgn settings cyct ⌝ }
     ensures range { λ r. ⌜ r ≤ 31 * 380_867 ⌝ }
 {
     let quotient = (cyct / 16) as u32;
-    let aged = tcgn(configuration) as u32 * quotient * gaf(configuration) as u32;
-    dcgn(configuration) as u32 * (32 + aged)
+    let aged = tcgn(settings) as u32 * quotient * gaf(settings) as u32;
+    dcgn(settings) as u32 * (32 + aged)
 }
 
-fn rate_term(configuration: Configuration, current: u16, temperature: u16, cyct: u16) -> u64
-    ensures { λ r. ⌜ r ≡ Spec.rateTerm configuration current temperature cyct ⌝ }
+fn rate_term(settings: Settings, current: u16, temperature: u16, cyct: u16) -> u64
+    ensures { λ r. ⌜ r ≡ Spec.rateTerm settings current temperature cyct ⌝ }
     ensures range { λ r. ⌜ r ≤ 65_535 * (31 * 380_867) * 34_848 ⌝ }
 {
-    let gain = adcgn(configuration, cyct) as u64;
-    let cold = tcgn(configuration) as u64 * dt(configuration, temperature) as u64;
+    let gain = adcgn(settings, cyct) as u64;
+    let cold = tcgn(settings) as u64 * dt(settings, temperature) as u64;
     current as u64 * gain * (128 + cold)
 }
 
-fn offset_term(configuration: Configuration) -> u64
-    ensures { λ r. ⌜ r ≡ Spec.offsetTerm configuration ⌝ }
+fn offset_term(settings: Settings) -> u64
+    ensures { λ r. ⌜ r ≡ Spec.offsetTerm settings ⌝ }
 {
-    131_072 * dcgn(configuration) as u64 * dcoff(configuration) as u64 * ilmd(configuration) as u64
+    131_072 * dcgn(settings) as u64 * dcoff(settings) as u64 * ilmd(settings) as u64
 }
 
 // DCMP, counts.
-pub fn dcmp(configuration: Configuration, current: u16, temperature: u16, cyct: u16) -> u64
-    ensures { λ r. ⌜ r ≡ Spec.dcmp configuration current temperature cyct ⌝ }
+pub fn dcmp(settings: Settings, current: u16, temperature: u16, cyct: u16) -> u64
+    ensures { λ r. ⌜ r ≡ Spec.dcmp settings current temperature cyct ⌝ }
 {
-    let rate = rate_term(configuration, current, temperature, cyct);
-    let offset = offset_term(configuration);
+    let rate = rate_term(settings, current, temperature, cyct);
+    let offset = offset_term(settings);
     if offset <= rate {
         return (rate - offset + 1_048_575) / 1_048_576;
     }

@@ -1,3 +1,5 @@
 pub mod BenchPack
 pub mod Configuration
+pub mod Fits
+pub mod Settings
 pub mod Terms

@@ -1,8 +1,8 @@
--- The terms of a configuration: the numbers that windows, rests, commands and the history are ruled by. They are computed from the bytes
+-- The terms of the settings: the numbers that windows, rests, commands and the history are ruled by. They are computed from the settings
 -- here and nowhere else, so that no rule reads a byte. Definitions only; assumes nothing.
-use mathlib.Core.List.{List}
 use Prim.Native.Nat.{ℕ}
 use Rattle.configuration.specs.Configuration.{coldThreshold, designCapacity, dmf, e1, edvf, openedMode, s0, sd, taper}
+use Rattle.configuration.specs.declared.settings.Settings.{Settings}
 
 pub record Terms : Type 0 where
   -- "Design capacity", counts
@@ -22,16 +22,16 @@ pub record Terms : Type 0 where
   -- MODE as opened
   pub mode : ℕ
 
-abbrev pub termsOf : List ℕ → Terms
-termsOf c =
+abbrev pub termsOf : Settings → Terms
+termsOf s =
     record {
-      capacity = designCapacity c;
-      edvf = edvf c;
-      e1 = e1 c;
-      s0 = s0 c;
-      dmf = dmf c;
-      sd = sd c;
-      taper = taper c;
-      cold = coldThreshold c;
-      mode = openedMode c;
+      capacity = designCapacity s;
+      edvf = edvf s;
+      e1 = e1 s;
+      s0 = s0 s;
+      dmf = dmf s;
+      sd = sd s;
+      taper = taper s;
+      cold = coldThreshold s;
+      mode = openedMode s;
     }

@@ -5,6 +5,7 @@ use mathlib.Core.Path.{_≡_}
 use Prim.Native.Nat.{ℕ, _/_, _<_}
 use lib.IntN.{ℤ, pos}
 use lib.ListN.{getD, length}
+use Rattle.configuration.specs.Settings.{openedSettings}
 use Rattle.estimate.specs.Estimate.{distanceFrom, estimated}
 use Rattle.flags.specs.Byte.{vdqOf}
 use Rattle.form.specs.Form.{Ar, Configuration, CycleDrain, Cyct, Dcr, Flags, Form, Held, Lmd, Mode, Rests, bytesOf, newest, numberOf}
@@ -84,7 +85,7 @@ FromOpening =
 abbrev pub begunIn : Form → List ℕ → History
 begunIn form bytes =
     record {
-      configuration = bytesOf Configuration form bytes;
+      settings = openedSettings (bytesOf Configuration form bytes);
       account = fixing (numberOf Held form bytes) (numberOf Lmd form bytes) (drainOf (runAt form bytes));
       host = record { mode = numberOf Mode form bytes; ar = numberOf Ar form bytes };
       counts = record { rests = numberOf Rests form bytes; cycles = numberOf Cyct form bytes; drain = numberOf CycleDrain form bytes };

@@ -3,6 +3,7 @@
 use mathlib.Core.List.{List}
 use mathlib.Core.Path.{_≡_}
 use Prim.Native.Nat.{ℕ, _*_}
+use Rattle.configuration.specs.Settings.{openedSettings}
 use Rattle.counters.specs.declared.counters.Counters.{Counters}
 use Rattle.flags.specs.Byte.{flagsOf, vdqOf}
 use Rattle.form.specs.Signed.{currentOf}
@@ -17,7 +18,7 @@ use Rattle.registers.specs.Values.{si}
 abbrev pub gaugeOf41 : List ℕ → ℕ → Counters → Gauge
 gaugeOf41 bytes si counters =
     record {
-      configuration = bytesAt 10 1 bytes;
+      settings = openedSettings (bytesAt 10 1 bytes);
       charge = record {
         held = numberAt 8 11 bytes;
         lmd = numberAt 2 27 bytes;

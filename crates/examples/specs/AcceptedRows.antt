@@ -44,7 +44,7 @@ withCurrent c flags = withNumber 31 2 c (withNumber 40 1 flags lower)
 abbrev carrying : Current → Gauge
 carrying c =
     record {
-      configuration = openedPack .configuration;
+      settings = openedPack .settings;
       charge = openedPack .charge;
       sample = record { current = c; voltage = 0; temperature = 0 };
       standby = openedPack .standby;

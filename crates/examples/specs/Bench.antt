@@ -1,6 +1,7 @@
 -- The bench pack and its three windows. Definitions only; assumes nothing.
 use Prim.Native.Nat.{ℕ}
 use lib.IntN.{ℤ, pos, negsuc}
+use Rattle.configuration.specs.Settings.{openedSettings}
 use Rattle.configuration.specs.BenchPack.{benchPack}
 use Rattle.configuration.specs.Terms.{Terms, termsOf}
 use Rattle.gauge.specs.Calls.{windowAnswer, writeAnswer}
@@ -8,7 +9,7 @@ use Rattle.gauge.specs.Opening.{openAnswer}
 use Rattle.gauge.specs.declared.state.Gauge.{Gauge}
 
 abbrev pub benchTerms : Terms
-benchTerms = termsOf benchPack
+benchTerms = termsOf (openedSettings benchPack)
 
 -- "opens this pack"
 abbrev pub openedPack : Gauge

@@ -5,6 +5,7 @@ use Prim.Native.Nat.{ℕ, zero, suc}
 use lib.IntN.{pos, negsuc}
 use lib.ListN.{set}
 use Rattle.compensation.specs.Compensation.{ceilingOf, dcmp, offsetTerm, rateTerm}
+use Rattle.configuration.specs.Settings.{openedSettings}
 use Rattle.configuration.specs.BenchPack.{benchPack}
 use Rattle.counters.specs.Cycles.{cyclesMoved, noCycles}
 use Rattle.counters.specs.declared.cycles.Cycles.{Cycles}
@@ -92,24 +93,24 @@ pub record CycleRows : Type 0 where
   pub not-whole : cyclesMoved 100 (currentOf (pos 28_011)) (nearlyWhole 7) ≡ nearlyWhole 7
   pub whole : cyclesMoved 100 (currentOf (pos 0)) (record { cyct = 7; drain = 13_500_000_000 }) ≡ record { cyct = 8; drain = 0 }
   -- DCMP(3,000) at 1,192 without ageing: GAF 0 at every CYCT, and any GAF up to CYCT 15
-  pub without-gaf : dcmp benchPack 3_000 1_192 65_535 ≡ 127
-  pub first-quotient : dcmp agedPack 3_000 1_192 15 ≡ 127
-  pub gaf-low-bits : dcmp highBits 3_000 1_192 85 ≡ 127
+  pub without-gaf : dcmp (openedSettings benchPack) 3_000 1_192 65_535 ≡ 127
+  pub first-quotient : dcmp (openedSettings agedPack) 3_000 1_192 15 ≡ 127
+  pub gaf-low-bits : dcmp (openedSettings highBits) 3_000 1_192 85 ≡ 127
   -- CYCT 85, GAF 3: quotient 5, 32 + 2 × 5 × 3 = 62; 3,000 × 13 × 62 × 128 = 309,504,000, less 131,072 × 13 × 4 × 4 = 27,262,976, is 269.2 × 2^20. An
   -- ADCGN of 25 or 26 would give 267 or 279, an aged DCOFF 245
-  pub quotient-5 : dcmp agedPack 3_000 1_192 85 ≡ 270
-  pub taken-6C : dcmp takenPack 3_000 1_192 85 ≡ 270
+  pub quotient-5 : dcmp (openedSettings agedPack) 3_000 1_192 85 ≡ 270
+  pub taken-6C : dcmp (openedSettings takenPack) 3_000 1_192 85 ≡ 270
   -- at 1,012: 3,000 × 13 × 62 × (128 + 2 × 100) = 793,104,000, less the same, is 730.4 × 2^20
-  pub quotient-5-cold : dcmp agedPack 3_000 1_012 85 ≡ 731
+  pub quotient-5-cold : dcmp (openedSettings agedPack) 3_000 1_012 85 ≡ 731
   -- GAF 1 and 2: 32 + 10 = 42 and 52; 182,403,072 and 232,321,024 are 173.95 and 221.6 × 2^20
-  pub gaf-1 : dcmp (set benchPack 7 0x01) 3_000 1_192 85 ≡ 174
-  pub gaf-2 : dcmp (set benchPack 7 0xFE) 3_000 1_192 85 ≡ 222
+  pub gaf-1 : dcmp (openedSettings (set benchPack 7 0x01)) 3_000 1_192 85 ≡ 174
+  pub gaf-2 : dcmp (openedSettings (set benchPack 7 0xFE)) 3_000 1_192 85 ≡ 222
   -- the greatest first term
-  pub greatest : rateTerm greatestPack 65_535 1_012 65_535 ≡ 2_689_602_566_261_820
+  pub greatest : rateTerm (openedSettings greatestPack) 65_535 1_012 65_535 ≡ 2_689_602_566_261_820
   -- no offset, DCOFF being 0: 2,565,004,888.8 × 2^20
-  pub greatest-dcmp : dcmp greatestPack 65_535 1_012 65_535 ≡ 2_565_004_889
+  pub greatest-dcmp : dcmp (openedSettings greatestPack) 65_535 1_012 65_535 ≡ 2_565_004_889
   -- 131,072 × 13 × 4 × 4
-  pub offset : offsetTerm benchPack ≡ 27_262_976
+  pub offset : offsetTerm (openedSettings benchPack) ≡ 27_262_976
   -- a ceiling, of a fraction that is whole, of one 2^20th more and less
   pub ceiling-whole : ceilingOf 1_048_576 1_048_576 ≡ 1
   pub ceiling-more : ceilingOf 1_048_577 1_048_576 ≡ 2

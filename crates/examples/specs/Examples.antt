@@ -6,6 +6,7 @@ use Rattle.command.specs.Command.{decide}
 use Rattle.command.specs.declared.command.Command.the-variants.{Wrtnac}
 use Rattle.command.specs.declared.command.Decision.the-variants.{Obey}
 use Rattle.compensation.specs.Compensation.{dcmp}
+use Rattle.configuration.specs.Settings.{openedSettings}
 use Rattle.configuration.specs.BenchPack.{benchPack}
 use Rattle.grains.specs.Grains.{grainsOfCounts}
 use Rattle.grains.specs.Leak.{weight}
@@ -34,7 +35,7 @@ pub record Examples : Type 0 where
   -- "h after line three 137,663,991,808"
   pub held : lineThree .charge .held ≡ 137_663_991_808
   -- "DCMP 127, CAC 892, TTE 17 there"
-  pub dcmp-127 : dcmp benchPack 3_000 1_192 0 ≡ 127
+  pub dcmp-127 : dcmp (openedSettings benchPack) 3_000 1_192 0 ≡ 127
   pub cac-892 : cac lineThree ≡ 892
   pub tte-17 : tte lineThree ≡ 17
   -- "drain 900 counts teaches 960", "100 teaches 896", "61,440 with LMD 65,535 teaches 65,535"

@@ -21,7 +21,7 @@ withoutAr mode = (writeAnswer lineThree 1 mode) .gauge
 abbrev pub rejected : Gauge
 rejected =
     record {
-      configuration = lineThree .configuration;
+      settings = lineThree .settings;
       charge = lineThree .charge;
       sample = lineThree .sample;
       standby = 65_535;

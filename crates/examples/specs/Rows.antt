@@ -8,6 +8,7 @@ use Rattle.command.specs.Command.{decide}
 use Rattle.command.specs.declared.command.Command.the-variants.{Done, Prst, Frst, Wrtlmd}
 use Rattle.command.specs.declared.command.Decision.the-variants.{Obey, Refused}
 use Rattle.compensation.specs.Compensation.{dcmp, dt, minutes}
+use Rattle.configuration.specs.Settings.{openedSettings}
 use Rattle.configuration.specs.Configuration.{dcgn, dcoff, e1, openedMode}
 use Rattle.configuration.specs.BenchPack.{benchPack}
 use Rattle.grains.specs.Grains.{grainsOfCounts}
@@ -29,18 +30,18 @@ charging n = record { charging = true; magnitude = n }
 
 pub record Rows : Type 0 where
   -- E1: SEDV1 0x60 gives 8 × (96 + 256) = 2,816, and EDVF + 32 is 2,832
-  pub e1-margin : e1 (set benchPack 2 0x60) ≡ 2_832
+  pub e1-margin : e1 (openedSettings (set benchPack 2 0x60)) ≡ 2_832
   -- 0x6C taken with PKCFG 0x02: 108 is 13 × 8 + 4; not taken, 0xFF is 31 × 8 + 7
-  pub dcgn-taken : dcgn (set (set benchPack 6 0x02) 8 0xFF) ≡ 13
-  pub dcoff-taken : dcoff (set (set benchPack 6 0x02) 8 0xFF) ≡ 4
-  pub dcgn-own : dcgn (set benchPack 8 0xFF) ≡ 31
-  pub dcoff-own : dcoff (set benchPack 8 0xFF) ≡ 7
+  pub dcgn-taken : dcgn (openedSettings (set (set benchPack 6 0x02) 8 0xFF)) ≡ 13
+  pub dcoff-taken : dcoff (openedSettings (set (set benchPack 6 0x02) 8 0xFF)) ≡ 4
+  pub dcgn-own : dcgn (openedSettings (set benchPack 8 0xFF)) ≡ 31
+  pub dcoff-own : dcoff (openedSettings (set benchPack 8 0xFF)) ≡ 7
   -- dt: TCOMP 0x15 is TCGN 2, TOFF 5, so the threshold is 4 × 278 = 1,112
-  pub dt-cold : dt benchPack 1_012 ≡ 100
-  pub dt-warm : dt benchPack 1_112 ≡ 0
-  pub dt-unmeasured : dt benchPack 0 ≡ 0
+  pub dt-cold : dt (openedSettings benchPack) 1_012 ≡ 100
+  pub dt-warm : dt (openedSettings benchPack) 1_112 ≡ 0
+  pub dt-unmeasured : dt (openedSettings benchPack) 0 ≡ 0
   -- DCMP(3,000) at 1,012: 3,000 × 13 × (128 + 2 × 100) = 12,792,000, less 4,096 × 13 × 4 × 4 = 851,968, is 364.4 × 32,768
-  pub dcmp-cold : dcmp benchPack 3_000 1_012 0 ≡ 365
+  pub dcmp-cold : dcmp (openedSettings benchPack) 3_000 1_012 0 ≡ 365
   -- a run one quarter kelvin below the threshold does not qualify
   pub cold-1111 : endingOf benchTerms true 21 3_000 1_111 ≡ Edv1
   pub cold-1112 : endingOf benchTerms true 21 3_000 1_112 ≡ Qualified
@@ -113,7 +114,7 @@ pub record Rows : Type 0 where
   pub key-prst : decide 0xA9 0x0B 0 ≡ Obey Prst
   pub key-frst : decide 0xA9 0x03 0 ≡ Obey Frst
   -- MODE's bits: PKCFG bit 7 and bits 6 and 2 as opened; the command bits 5, 4, 3, 1, 0 cleared; INIT, bit 2, cleared
-  pub mode-opened : openedMode (set benchPack 6 0xFF) ≡ 0xC4
-  pub mode-opened-0 : openedMode benchPack ≡ 0x44
+  pub mode-opened : openedMode (openedSettings (set benchPack 6 0xFF)) ≡ 0xC4
+  pub mode-opened-0 : openedMode (openedSettings benchPack) ≡ 0x44
   pub mode-commands : commandsCleared 0xFF ≡ 0xC4
   pub mode-init : initCleared 0xFF ≡ 0xFB

@@ -50,7 +50,7 @@ module _ (g : Gauge) (a v t : ℤ) where
   window-temperature p q r s = simp (p, q, r, s)
 
   pub window-done : {next : Gauge} → accepted g ≡ true → currentInRange a ≡ true → voltageInRange v ≡ true → temperatureInRange t ≡ true
-      → next ≡ window (counted (dmf (g .configuration)) (current a)) (voltage v) (temperature t) g
+      → next ≡ window (counted (dmf (g .settings)) (current a)) (voltage v) (temperature t) g
       → answer 0 next ≡ windowAnswer g a v t
   unfolding windowAnswer
   window-done p q r s e = done _ _ _ _ (simp (p, q, r, s)) e

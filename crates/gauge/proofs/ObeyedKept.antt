@@ -1,7 +1,6 @@
 -- A command leaves a gauge that 14 does not refuse, of the widths that every gauge has: each part stays one that is accepted, and WRTLMD is obeyed
 -- only where AR is above 0. Assumes nothing.
-use mathlib.Core.Bool.{Bool, true, false, not, cond}
-use mathlib.Core.List.{List}
+use mathlib.Core.Bool.{Bool, true, false, cond}
 use mathlib.Core.Path.{_≡_, sym, ap, subst, _∙_}
 use Prim.Native.Nat.{ℕ, _<_}
 use native.Mathlib.Omega.{arith}
@@ -14,6 +13,8 @@ use Rattle.command.specs.declared.command.Decision.{Decision}
 use Rattle.command.specs.declared.command.Decision.the-variants.{Obey, Refused}
 use Rattle.command.proofs.DecisionLaws.{wrtlmd-above}
 use Rattle.configuration.specs.Configuration.{dmf, ilmd, s0}
+use Rattle.configuration.specs.Settings.{settingsAccepted}
+use Rattle.configuration.specs.declared.settings.Settings.{Settings}
 use Rattle.configuration.specs.Terms.{termsOf}
 use Rattle.counters.proofs.CountersKept as Counters
 use Rattle.refusals.specs.Refusal as Refusal
@@ -32,22 +33,23 @@ use Rattle.gauge.specs.declared.state.Gauge.{Gauge}
 use Rattle.gauge.proofs.AcceptedLaws.{Sound, sound, sound-accepted}
 use Rattle.gauge.proofs.Standing.{Standing, standing, taken}
 
-opens : (c : List ℕ) → not (eqb (ilmd c) 0) ≡ true → 0 < ilmd c
-opens c e = let n : ilmd c ≡ 0 → ⊥ = eqb-false (ilmd c) 0 (not-true (eqb (ilmd c) 0) e) in omega arith
+opens : (s : Settings) → settingsAccepted s ≡ true → 0 < ilmd s
+unfolding settingsAccepted
+opens s e = let n : ilmd s ≡ 0 → ⊥ = eqb-false (ilmd s) 0 (not-true (eqb (ilmd s) 0) e) in omega arith
 
 module _ (g : Gauge) (s : Sound g) where
-  reset-sample : (t : Bool) → SampleSound (dmf (g .configuration)) (sampleReset t (g .sample))
+  reset-sample : (t : Bool) → SampleSound (dmf (g .settings)) (sampleReset t (g .sample))
   unfolding sampleReset
-  reset-sample true = no-sample (dmf (g .configuration))
+  reset-sample true = no-sample (dmf (g .settings))
   reset-sample false = s .sample
 
   pub obeyed-sound : (command : Command) → (command ≡ Wrtlmd → 0 < g .host .ar) → Sound (obeyed command g)
   unfolding obeyed
   obeyed-sound command above =
-      let c = g .configuration in
-      let p = opens c (s .ilmd) in
+      let c = g .settings in
+      let p = opens c (s .settings) in
       record {
-        ilmd = s .ilmd;
+        settings = s .settings;
         charge = command-sound command (termsOf c) (g .host .ar) (g .charge) (s .charge) (omega arith) above;
         standby = reset-kept (isReset command) (s0 c) (g .standby) (s .standby);
         sample = reset-sample (isReset command);
@@ -63,11 +65,11 @@ module _ (g : Gauge) (s : Standing g) where
   obeyed-stands : (command : Command) → (command ≡ Wrtlmd → 0 < g .host .ar) → Standing (obeyed command g)
   unfolding obeyed
   obeyed-stands command above =
-      let c = g .configuration in
-      let q = s .ten .bytes 0 in
+      let c = g .settings in
+      let q = s .settings .bytes 0 in
       let w = s .host .ar in
       record {
-        ten = s .ten;
+        settings = s .settings;
         sound = obeyed-sound g (s .sound) command above;
         lmd = command-lmd command (termsOf c) (g .host .ar) (g .charge) (s .lmd) (omega arith) (omega arith);
         host = obeyed-fits command c (g .host) (s .host);

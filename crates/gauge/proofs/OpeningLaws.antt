@@ -6,6 +6,7 @@ use Prim.Native.Nat.{ℕ}
 use lib.Dec.{eqb}
 use lib.ListN.{length, replicate}
 use Rattle.configuration.specs.Configuration.{ilmd}
+use Rattle.configuration.specs.Settings.{openedSettings}
 use Rattle.refusals.specs.Refusal as Refusal
 use Rattle.gauge.specs.Opening.{openAnswer, openRefusal, opened}
 use Rattle.gauge.specs.declared.state.Gauge.{Gauge}
@@ -17,11 +18,11 @@ module _ (b : List ℕ) where
   unfolding openAnswer openRefusal
   open-length p e = simp p (ap (answer Refusal.configurationLength) e)
 
-  pub open-capacity : {g : Gauge} → eqb (length b) 10 ≡ true → eqb (ilmd b) 0 ≡ true → g ≡ opened (replicate 10 0)
+  pub open-capacity : {g : Gauge} → eqb (length b) 10 ≡ true → eqb (ilmd (openedSettings b)) 0 ≡ true → g ≡ opened (replicate 10 0)
       → answer Refusal.ilmdZero g ≡ openAnswer b
   unfolding openAnswer openRefusal
   open-capacity p q e = simp (p, q) (ap (answer Refusal.ilmdZero) e)
 
-  pub open-done : {g : Gauge} → eqb (length b) 10 ≡ true → eqb (ilmd b) 0 ≡ false → g ≡ opened b → answer 0 g ≡ openAnswer b
+  pub open-done : {g : Gauge} → eqb (length b) 10 ≡ true → eqb (ilmd (openedSettings b)) 0 ≡ false → g ≡ opened b → answer 0 g ≡ openAnswer b
   unfolding openAnswer openRefusal
   open-done p q e = simp (p, q) (ap (answer 0) e)

@@ -27,7 +27,7 @@ sampleRefusal a v t = orElse (currentRefusal a) (orElse (voltageRefusal v) (temp
 unfoldable pub windowAnswer : Gauge → ℤ → ℤ → ℤ → Answer
 windowAnswer g a v t =
     answered (unlessRejected g (sampleRefusal a v t)) g
-    (window (counted ((termsOf (g .configuration)) .dmf) (current a)) (voltage v) (temperature t) g)
+    (window (counted ((termsOf (g .settings)) .dmf) (current a)) (voltage v) (temperature t) g)
 
 -- ---- a rest: 14, 6, 5
 
@@ -42,7 +42,7 @@ restAnswer g n t = answered (unlessRejected g (restRefusal n t)) g (rest n (temp
 unfoldable pub storedAt : ℕ → ℕ → Gauge → Gauge
 storedAt address value g =
     record {
-      configuration = g .configuration;
+      settings = g .settings;
       charge = g .charge;
       sample = g .sample;
       standby = g .standby;

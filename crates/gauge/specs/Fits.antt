@@ -1,21 +1,15 @@
 -- The widths of a gauge value's fields, which are those of its saved fields: what every value of the type `Gauge` has in the code; and the gauge
 -- values that calls take. Definitions only; assumes nothing.
 use mathlib.Core.Bool.{true}
-use mathlib.Core.List.{List}
 use mathlib.Core.Path.{_≡_}
-use Prim.Native.Nat.{ℕ, _<_, _^_}
-use lib.ListN.{getD, length}
+use Prim.Native.Nat.{_<_, _^_}
+use Rattle.configuration.specs.Fits.{SettingsFit}
 use Rattle.counters.specs.Fits.{CountersFit}
 use Rattle.gauge.specs.Accepted.{accepted}
 use Rattle.gauge.specs.declared.state.Gauge.{Gauge}
 
--- "The ten configuration bytes"
-pub record TenBytes (c : List ℕ) : Type 0 where
-  pub ten : length c ≡ 10
-  pub bytes : (k : ℕ) → getD c k 0 < 256
-
 pub record Fits (g : Gauge) : Type 0 where
-  pub configuration : TenBytes (g .configuration)
+  pub settings : SettingsFit (g .settings)
   -- "h and DCR, 8 bytes each"
   pub held : g .charge .held < 256 ^ 8
   pub dcr : g .charge .run .dcr < 256 ^ 8

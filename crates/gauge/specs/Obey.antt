@@ -15,12 +15,12 @@ use Rattle.gauge.specs.declared.state.Gauge.{Gauge}
 unfoldable pub obeyed : Command → Gauge → Gauge
 obeyed command g =
     record {
-      configuration = g .configuration;
-      charge = chargeObeyed command (termsOf (g .configuration)) (g .host .ar) (g .charge);
+      settings = g .settings;
+      charge = chargeObeyed command (termsOf (g .settings)) (g .host .ar) (g .charge);
       sample = sampleReset (isReset command) (g .sample);
-      standby = standbyReset (isReset command) ((termsOf (g .configuration)) .s0) (g .standby);
+      standby = standbyReset (isReset command) ((termsOf (g .settings)) .s0) (g .standby);
       flags = flagsObeyed command (g .flags);
-      host = hostObeyed command (termsOf (g .configuration)) (g .host);
+      host = hostObeyed command (termsOf (g .settings)) (g .host);
       counters = countersObeyed command (g .counters);
     }
 

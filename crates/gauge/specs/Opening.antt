@@ -6,6 +6,7 @@ use lib.Dec.{eqb}
 use lib.ListN.{length, replicate}
 use Rattle.charge.specs.Charge.{openedCharge}
 use Rattle.configuration.specs.Configuration.{ilmd}
+use Rattle.configuration.specs.Settings.{openedSettings}
 use Rattle.configuration.specs.Terms.{termsOf}
 use Rattle.counters.specs.Counters.{openedCounters}
 use Rattle.flags.specs.Flags.{openedFlags}
@@ -22,19 +23,19 @@ use Rattle.gauge.specs.declared.state.Gauge.{Gauge}
 unfoldable pub opened : List ℕ → Gauge
 opened c =
     record {
-      configuration = c;
-      charge = openedCharge (termsOf c);
+      settings = openedSettings c;
+      charge = openedCharge (termsOf (openedSettings c));
       sample = noSample;
-      standby = openedStandby ((termsOf c) .s0);
+      standby = openedStandby ((termsOf (openedSettings c)) .s0);
       flags = openedFlags true;
-      host = openedHost (termsOf c);
+      host = openedHost (termsOf (openedSettings c));
       counters = openedCounters;
     }
 
 -- 1 "configuration not 10 bytes", 2 "ILMD 0"
 unfoldable pub openRefusal : List ℕ → ℕ
 openRefusal bytes =
-    cond (eqb (length bytes) 10) (cond (eqb (ilmd bytes) 0) Refusal.ilmdZero Refusal.none) Refusal.configurationLength
+    cond (eqb (length bytes) 10) (cond (eqb (ilmd (openedSettings bytes)) 0) Refusal.ilmdZero Refusal.none) Refusal.configurationLength
 
 -- a refused opening has no gauge to hand back: it is that of ten bytes 0, which every call refuses with 14
 unfoldable pub openAnswer : List ℕ → Answer

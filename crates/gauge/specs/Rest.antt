@@ -12,8 +12,8 @@ use Rattle.gauge.specs.declared.state.Gauge.{Gauge}
 unfoldable pub rest : ℕ → ℕ → Gauge → Gauge
 rest n t g =
     record {
-      configuration = g .configuration;
-      charge = rested n (leakRate ((termsOf (g .configuration)) .sd) t) (g .charge);
+      settings = g .settings;
+      charge = rested n (leakRate ((termsOf (g .settings)) .sd) t) (g .charge);
       sample = sampleRested t (g .sample);
       standby = g .standby;
       flags = g .flags;

@@ -15,22 +15,22 @@ use Rattle.gauge.specs.declared.state.Gauge.{Gauge}
 
 -- Steps 1 and 2: the leak at the NAC from before, then the sum of the counted current, with the empty stop of step 3
 unfoldable pub summed : Current → ℕ → Gauge → Charge
-summed c t g = moved c (leaked (leakRate ((termsOf (g .configuration)) .sd) t) (g .charge))
+summed c t g = moved c (leaked (leakRate ((termsOf (g .settings)) .sd) t) (g .charge))
 
 -- what steps 3 and 4 find
 unfoldable pub reachedIn : Current → ℕ → ℕ → Gauge → Reached
-reachedIn c v t g = reachedBy (termsOf (g .configuration)) c v t (summed c t g)
+reachedIn c v t g = reachedBy (termsOf (g .settings)) c v t (summed c t g)
 
 unfoldable pub window : Current → ℕ → ℕ → Gauge → Gauge
 window c v t g =
     record {
-      configuration = g .configuration;
+      settings = g .settings;
       -- Steps 3 and 4
       charge = chargeReached (reachedIn c v t g) (summed c t g);
       -- Step 1: "VOLT = v, TEMP = t, IAV (the sheet's average current) = |c|, CHGS set if c > 0, else clear"
       sample = record { current = c; voltage = v; temperature = t };
       -- Step 5
-      standby = averaged ((termsOf (g .configuration)) .s0) (g .standby) (discharge c);
+      standby = averaged ((termsOf (g .settings)) .s0) (g .standby) (discharge c);
       -- Steps 2 and 4
       flags = flagsEnded ((reachedIn c v t g) .ending) (clearedIf (c .charging) (g .flags));
       -- Step 3

@@ -3,24 +3,23 @@ ghost use mathlib.Core.Path.{_≡_};
 ghost use Rattle.gauge.specs.Accepted as Spec;
 use crate::state::Gauge;
 use configuration::configuration::dmf;
-use configuration::configuration::ilmd;
 use standby::standby::standby_accepted;
 
 impl Gauge {
     pub fn accepted(self) -> bool
         ensures { λ r. ⌜ r ≡ Spec.accepted self ⌝ }
     {
-        let configuration = self.configuration;
-        if ilmd(configuration) == 0 {
+        let settings = self.settings;
+        if !settings.accepted() {
             return false;
         }
         if !self.charge.accepted() {
             return false;
         }
-        if !standby_accepted(configuration, self.standby) {
+        if !standby_accepted(settings, self.standby) {
             return false;
         }
-        if !self.sample.accepted(dmf(configuration)) {
+        if !self.sample.accepted(dmf(settings)) {
             return false;
         }
         self.counters.accepted()

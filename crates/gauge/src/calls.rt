@@ -59,8 +59,8 @@ impl Gauge {
                 gauge,
             };
         }
-        let configuration = gauge.configuration;
-        let counted = current(a).counted(dmf(configuration));
+        let settings = gauge.settings;
+        let counted = current(a).counted(dmf(settings));
         let stepped = gauge.stepped(counted, voltage(v), temperature(t));
         Answer {
             number: NONE,

@@ -10,13 +10,13 @@ impl Gauge {
     pub(crate) fn obeyed(mut self, command: Command) -> Gauge
         ensures { λ r. ⌜ r ≡ Spec.obeyed command self ⌝ }
     {
-        let configuration = self.configuration;
+        let settings = self.settings;
         let reset = is_reset(command);
-        let charge = self.charge.obeyed(command, configuration, self.host.ar);
+        let charge = self.charge.obeyed(command, settings, self.host.ar);
         let sample = self.sample.reset_if(reset);
-        let standby = reset_if(reset, configuration, self.standby);
+        let standby = reset_if(reset, settings, self.standby);
         let flags = self.flags.obeyed(command);
-        let host = self.host.obeyed(command, configuration);
+        let host = self.host.obeyed(command, settings);
         let counters = self.counters.obeyed(command);
         self.charge = charge;
         self.sample = sample;

@@ -4,8 +4,9 @@ ghost use Rattle.gauge.specs.Opening as Spec;
 use crate::answer::Answer;
 use crate::state::Gauge;
 use charge::charge::Charge;
-use configuration::configuration::Configuration;
 use configuration::configuration::ilmd;
+use configuration::settings::Configuration;
+use configuration::settings::Settings;
 use counters::counters::Counters;
 use flags::flags::Flags;
 use host::host::Host;
@@ -19,14 +20,15 @@ use standby::standby::opened_standby;
 fn opened(configuration: Configuration) -> Gauge
     ensures { λ r. ⌜ r ≡ Spec.opened configuration ⌝ }
 {
-    let charge = Charge::opened(configuration);
+    let settings = Settings::opened(configuration);
+    let charge = Charge::opened(settings);
     let sample = Sample::none();
-    let standby = opened_standby(configuration);
+    let standby = opened_standby(settings);
     let flags = Flags::opened(true);
-    let host = Host::opened(configuration);
+    let host = Host::opened(settings);
     let counters = Counters::opened();
     Gauge {
-        configuration,
+        settings,
         charge,
         sample,
         standby,
@@ -48,7 +50,7 @@ pub fn open(bytes: &[u8]) -> Answer
         };
     }
     let configuration = ten_at(bytes, 0);
-    if ilmd(configuration) == 0 {
+    if ilmd(Settings::opened(configuration)) == 0 {
         let gauge = opened([0u8; 10]);
         return Answer {
             number: ILMD_ZERO,

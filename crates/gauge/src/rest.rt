@@ -9,8 +9,8 @@ impl Gauge {
     pub(crate) fn rested(mut self, windows: u32, temperature: u16) -> Gauge
         ensures { λ r. ⌜ r ≡ Spec.rest windows temperature self ⌝ }
     {
-        let configuration = self.configuration;
-        let rate = leak_rate(sd(configuration), temperature);
+        let settings = self.settings;
+        let rate = leak_rate(sd(settings), temperature);
         let charge = self.charge.rested(windows, rate);
         let sample = self.sample.rested(temperature);
         let counters = self.counters.rested(windows);

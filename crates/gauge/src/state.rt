@@ -1,13 +1,14 @@
-// The gauge, a value: the ten configuration bytes travel in it.
+// The gauge, a value: its settings, with the ten configuration bytes, travel in it.
 use charge::charge::Charge;
-use configuration::configuration::Configuration;
+use configuration::settings::Settings;
 use counters::counters::Counters;
 use flags::flags::Flags;
 use host::host::Host;
 use sample::sample::Sample;
 
 pub struct Gauge {
-    pub configuration: Configuration,
+    // the configuration bytes in force
+    pub settings: Settings,
     // h, LMD and the run
     pub charge: Charge,
     // c, VOLT and TEMP

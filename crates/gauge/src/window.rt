@@ -19,8 +19,8 @@ impl Gauge {
     fn summed(self, current: Current, temperature: u16) -> Charge
         ensures { λ r. ⌜ r ≡ Spec.summed current temperature self ⌝ }
     {
-        let configuration = self.configuration;
-        let rate = leak_rate(sd(configuration), temperature);
+        let settings = self.settings;
+        let rate = leak_rate(sd(settings), temperature);
         self.charge.leaked(rate).moved(current)
     }
 
@@ -28,11 +28,11 @@ impl Gauge {
     pub(crate) fn stepped(self, current: Current, voltage: u16, temperature: u16) -> Gauge
         ensures { λ r. ⌜ r ≡ Spec.window current voltage temperature self ⌝ }
     {
-        let configuration = self.configuration;
+        let settings = self.settings;
         let summed = self.summed(current, temperature);
-        let full = is_full(configuration, current, voltage, summed.held, summed.lmd);
+        let full = is_full(settings, current, voltage, summed.held, summed.lmd);
         let ending = ending_of(
-            configuration,
+            settings,
             summed.run.vdq,
             current.discharge(),
             voltage,
@@ -46,10 +46,10 @@ impl Gauge {
             voltage,
             temperature,
         };
-        let standby = averaged(configuration, self.standby, current.discharge());
+        let standby = averaged(settings, self.standby, current.discharge());
         let counters = self.counters.moved(self.charge.lmd, current);
         Gauge {
-            configuration,
+            settings,
             charge,
             sample,
             standby,

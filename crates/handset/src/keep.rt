@@ -18,7 +18,7 @@ pub(crate) fn keep(answer: Answer, saved: &mut [u8]) -> u32
     if answer.number != NONE {
         return answer.number;
     }
-    let configuration = answer.gauge.configuration;
+    let settings = answer.gauge.settings;
     let charge = answer.gauge.charge;
     let sample = answer.gauge.sample;
     let standby = answer.gauge.standby;
@@ -26,7 +26,7 @@ pub(crate) fn keep(answer: Answer, saved: &mut [u8]) -> u32
     let host = answer.gauge.host;
     let counters = answer.gauge.counters;
     put(
-        configuration,
+        settings,
         charge,
         sample,
         standby,

@@ -1,4 +1,4 @@
--- Each call keeps what holds of a gauge and its history: the gauge is accepted, the configuration is the same, the history's charge, capacity
+-- Each call keeps what holds of a gauge and its history: the gauge is accepted, the settings are the same, the history's charge, capacity
 -- and run are the gauge's, its counts stop at the gauge's, and MODE and AR decide alike. Assumes nothing.
 use mathlib.Core.Bool.{Bool, true, false, cond}
 use mathlib.Core.List.{List}
@@ -14,6 +14,7 @@ use Rattle.command.specs.declared.command.Decision.{Decision}
 use Rattle.command.specs.declared.command.Decision.the-variants.{Obey, Refused}
 use Rattle.configuration.specs.Configuration.{dmf, sd}
 use Rattle.configuration.specs.Terms.{Terms, termsOf}
+use Rattle.configuration.specs.declared.settings.Settings.{Settings}
 use Rattle.counters.specs.Counters.{countersMoved}
 use Rattle.counters.proofs.CountersKept.{accepted-drain}
 use Rattle.gauge.specs.Calls.{storedAt, written}
@@ -30,7 +31,7 @@ use Rattle.sample.specs.Range.{between, current, currentInRange, currentOf, tem
 use Rattle.sample.specs.declared.current.Current.{Current}
 use Rattle.history.specs.Account.{afterRest, afterWindow}
 use Rattle.history.specs.Counts.{countsAfterRest, countsAfterWindow}
-use Rattle.history.specs.History.{afterCommand, afterKey, afterWrite, hostAfter, openedHistory, withoutCommand}
+use Rattle.history.specs.History.{afterCommand, afterKey, afterWrite, hostAfter, startedHistory, withoutCommand}
 use Rattle.history.specs.Kept.{History, withAccount, withCounts, withHost}
 use Rattle.history.specs.Tests.{countedCurrent}
 use Rattle.history.proofs.AnswerLaws.{InRange}
@@ -45,7 +46,7 @@ use Rattle.history.proofs.WindowTracks.{window-tracks}
 
 -- beside a gauge, the history: what a call moves on both sides
 pub record Beside (g : Gauge) (x : History) : Type 0 where
-  pub configuration : x .configuration ≡ g .configuration
+  pub settings : x .settings ≡ g .settings
   pub tracks : Tracks (g .charge) (x .account)
   pub host : HostTracks (g .host) (x .host)
   pub counts : CountTracks (g .counters) (x .counts)
@@ -71,18 +72,18 @@ counted-is terms a e = rw e (go (leb (magnitude a) (terms .dmf)))
 module _ (g : Gauge) (x : History) (s : Standing g) (f : Beside g x) where
   window-charge : (a v t : ℤ) → InRange a v t
       → Tracks
-      (chargeAfter (termsOf (g .configuration)) (leakRate (sd (g .configuration)) (temperature t))
-      (counted (dmf (g .configuration)) (current a)) (voltage v) (temperature t) (g .charge))
-      (afterWindow (termsOf (x .configuration)) (countedCurrent (termsOf (x .configuration)) a) v t (x .account))
+      (chargeAfter (termsOf (g .settings)) (leakRate (sd (g .settings)) (temperature t))
+      (counted (dmf (g .settings)) (current a)) (voltage v) (temperature t) (g .charge))
+      (afterWindow (termsOf (x .settings)) (countedCurrent (termsOf (x .settings)) a) v t (x .account))
   window-charge a v t r =
-      let c = g .configuration in
+      let c = g .settings in
       let z = countedCurrent (termsOf c) a in
       let i = counted-is (termsOf c) a (r .current) in
       let m = counted-within (dmf c) a (r .current) in
       let k = window-tracks (termsOf c) (temperature t) (rate-low c (temperature t)) (g .charge) (x .account) (f .tracks) (bounded g s) z (voltage v)
       (subst (λ (j : Current). j .magnitude ≤ 65_535) i m) in
       let e =
-      ap (λ (d : List ℕ). afterWindow (termsOf d) (countedCurrent (termsOf d) a) v t (x .account)) (f .configuration)
+      ap (λ (d : Settings). afterWindow (termsOf d) (countedCurrent (termsOf d) a) v t (x .account)) (f .settings)
       ∙ ap (λ (w : ℤ). afterWindow (termsOf c) z w t (x .account)) (value-is leastVoltage mostVoltage v (r .voltage))
       ∙ ap (λ (w : ℤ). afterWindow (termsOf c) z (pos (voltage v)) w (x .account)) (value-is leastTemperature mostTemperature t (r .temperature)) in
       subst₂ Tracks
@@ -90,10 +91,10 @@ module _ (g : Gauge) (x : History) (s : Standing g) (f : Beside g x) where
       (sym e) k
 
   window-count : (a : ℤ) → currentInRange a ≡ true
-      → CountTracks (countersMoved (g .charge .lmd) (counted (dmf (g .configuration)) (current a)) (g .counters))
-      (countsAfterWindow (x .account .learned) (countedCurrent (termsOf (x .configuration)) a) (x .counts))
+      → CountTracks (countersMoved (g .charge .lmd) (counted (dmf (g .settings)) (current a)) (g .counters))
+      (countsAfterWindow (x .account .learned) (countedCurrent (termsOf (x .settings)) a) (x .counts))
   window-count a r =
-      let c = g .configuration in
+      let c = g .settings in
       let l = g .charge .lmd in
       let z = countedCurrent (termsOf c) a in
       let i = counted-is (termsOf c) a r in
@@ -101,16 +102,16 @@ module _ (g : Gauge) (x : History) (s : Standing g) (f : Beside g x) where
       let k = window-counts (g .counters) (x .counts) (f .counts) l z small (accepted-drain (g .counters) (s .sound .counters)) in
       subst₂ CountTracks (ap (λ (j : Current). countersMoved l j (g .counters)) (sym i))
       (ap (λ (m : ℕ). countsAfterWindow m z (x .counts)) (f .tracks .lmd)
-      ∙ ap (λ (d : List ℕ). countsAfterWindow (x .account .learned) (countedCurrent (termsOf d) a) (x .counts)) (sym (f .configuration))) k
+      ∙ ap (λ (d : Settings). countsAfterWindow (x .account .learned) (countedCurrent (termsOf d) a) (x .counts)) (sym (f .settings))) k
 
   pub window-beside : (a v t : ℤ) → InRange a v t
-      → Beside (window (counted (dmf (g .configuration)) (current a)) (voltage v) (temperature t) g)
-      (withCounts (countsAfterWindow (x .account .learned) (countedCurrent (termsOf (x .configuration)) a) (x .counts))
-      (withAccount (afterWindow (termsOf (x .configuration)) (countedCurrent (termsOf (x .configuration)) a) v t (x .account)) x))
+      → Beside (window (counted (dmf (g .settings)) (current a)) (voltage v) (temperature t) g)
+      (withCounts (countsAfterWindow (x .account .learned) (countedCurrent (termsOf (x .settings)) a) (x .counts))
+      (withAccount (afterWindow (termsOf (x .settings)) (countedCurrent (termsOf (x .settings)) a) v t (x .account)) x))
   unfolding window summed reachedIn reachedBy chargeReached
   window-beside a v t r =
       record {
-        configuration = f .configuration;
+        settings = f .settings;
         tracks = window-charge a v t r;
         host = full-host _ (g .host) (x .host) (f .host);
         counts = window-count a (r .current);
@@ -118,16 +119,16 @@ module _ (g : Gauge) (x : History) (s : Standing g) (f : Beside g x) where
 
   pub rest-beside : (n : ℕ) (t : ℤ) → temperatureInRange t ≡ true
       → Beside (rest n (temperature t) g)
-      (withCounts (countsAfterRest n (x .counts)) (withAccount (afterRest (termsOf (x .configuration)) n t (x .account)) x))
+      (withCounts (countsAfterRest n (x .counts)) (withAccount (afterRest (termsOf (x .settings)) n t (x .account)) x))
   unfolding rest
   rest-beside n t r =
-      let c = g .configuration in
+      let c = g .settings in
       let k = rest-tracks (termsOf c) (temperature t) (rate-low c (temperature t)) n (g .charge) (x .account) (f .tracks) (bounded g s) in
       let e =
-      ap (λ (d : List ℕ). afterRest (termsOf d) n t (x .account)) (f .configuration)
+      ap (λ (d : Settings). afterRest (termsOf d) n t (x .account)) (f .settings)
       ∙ ap (λ (w : ℤ). afterRest (termsOf c) n w (x .account)) (value-is leastTemperature mostTemperature t r) in
       record {
-        configuration = f .configuration;
+        settings = f .settings;
         tracks = subst (Tracks (rested n (leakRate (sd c) (temperature t)) (g .charge))) (sym e) k;
         host = f .host;
         counts = rest-counts (g .counters) (x .counts) (f .counts) n;
@@ -137,27 +138,27 @@ module _ (g : Gauge) (x : History) (s : Standing g) (f : Beside g x) where
   unfolding storedAt
   stored-beside address value =
       record {
-        configuration = f .configuration;
+        settings = f .settings;
         tracks = f .tracks;
         host = stored-host address value (g .host) (x .host) (s .host .ar) (f .host);
         counts = f .counts;
       }
 
-  command-configuration : (command : Command) → (afterCommand command x) .configuration ≡ x .configuration
-  unfolding afterCommand openedHistory
-  command-configuration Wrtnac = refl
-  command-configuration Done = refl
-  command-configuration Prst = refl
-  command-configuration Frst = refl
-  command-configuration Wrtlmd = refl
+  command-settings : (command : Command) → (afterCommand command x) .settings ≡ x .settings
+  unfolding afterCommand startedHistory
+  command-settings Wrtnac = refl
+  command-settings Done = refl
+  command-settings Prst = refl
+  command-settings Frst = refl
+  command-settings Wrtlmd = refl
 
   obeyed-beside : (command : Command) → Beside (obeyed command g) (withoutCommand (afterCommand command x))
   unfolding obeyed
   obeyed-beside command =
       record {
-        configuration = command-configuration command ∙ f .configuration;
-        tracks = command-tracks command (g .configuration) (g .host .ar) (g .charge) x (f .tracks) (f .configuration) (f .host .ar);
-        host = obeyed-host command (g .configuration) (g .host) x (f .host .ar);
+        settings = command-settings command ∙ f .settings;
+        tracks = command-tracks command (g .settings) (g .host .ar) (g .charge) x (f .tracks) (f .settings) (f .host .ar);
+        host = obeyed-host command (g .settings) (g .host) x (f .host .ar);
         counts = command-counts command (g .counters) x (f .counts);
       }
 

@@ -15,6 +15,7 @@ use Rattle.command.specs.declared.command.Command.{Command}
 use Rattle.command.specs.declared.command.Command.the-variants.{Wrtnac, Done, Prst, Frst, Wrtlmd}
 use Rattle.command.specs.declared.command.Decision.the-variants.{Refused}
 use Rattle.configuration.specs.Terms.{termsOf}
+use Rattle.configuration.specs.declared.settings.Settings.{Settings}
 use Rattle.grains.specs.Grains.{grainsOfCounts}
 use Rattle.host.specs.Host.{commanded, commandsCleared, fullIf, hostObeyed, openedHost, stored}
 use Rattle.host.specs.declared.host.Host.{Host}
@@ -22,16 +23,16 @@ use Rattle.host.proofs.HostLaws.{commands-cleared-bit, init-cleared-bit}
 use Rattle.numbers.specs.Little.{byteAt}
 use Rattle.numbers.specs.Signed.{atLeastZero}
 use Rattle.refusals.specs.Refusal as Refusal
-use Rattle.history.specs.History.{afterCommand, hostAfter, openedHistory, withoutCommand}
+use Rattle.history.specs.History.{afterCommand, hostAfter, startedHistory, withoutCommand}
 use Rattle.history.specs.Kept.{History}
 use Rattle.history.specs.Sums.{chargeOf, grainsACount}
 use Rattle.history.proofs.Tracking.{Tracks, fixed-is}
 
 -- ---- the charge
 
-pub command-tracks : (command : Command) (c : List ℕ) (ar : ℕ) (y : Charge) (x : History) → Tracks y (x .account)
-    → x .configuration ≡ c → ar ≡ x .host .ar → Tracks (chargeObeyed command (termsOf c) ar y) ((afterCommand command x) .account)
-unfolding chargeObeyed afterCommand writtenNac writtenLmd withoutRun filled openedCharge openedHistory
+pub command-tracks : (command : Command) (c : Settings) (ar : ℕ) (y : Charge) (x : History) → Tracks y (x .account)
+    → x .settings ≡ c → ar ≡ x .host .ar → Tracks (chargeObeyed command (termsOf c) ar y) ((afterCommand command x) .account)
+unfolding chargeObeyed afterCommand writtenNac writtenLmd withoutRun filled openedCharge startedHistory
 command-tracks Wrtnac c ar y x k p e =
     let l = k .lmd in
     let f : min (x .host .ar) (x .account .learned) * grainsACount ≡ min (grainsOfCounts ar) (grainsOfCounts (y .lmd)) = omega arith in
@@ -44,7 +45,7 @@ command-tracks Done c ar y x k p e =
     }
 command-tracks Prst c ar y x k p e = record { held = k .held; lmd = k .lmd; run = refl }
 command-tracks Frst c ar y x k p e =
-    record { held = fixed-is 0; lmd = ap (λ (d : List ℕ). (termsOf d) .capacity) (sym p); run = refl }
+    record { held = fixed-is 0; lmd = ap (λ (d : Settings). (termsOf d) .capacity) (sym p); run = refl }
 command-tracks Wrtlmd c ar y x k p e =
     let n : atLeastZero (chargeOf (x .account .sums)) ≡ y .held = ap atLeastZero (k .held) in
     let f : min (atLeastZero (chargeOf (x .account .sums))) (x .host .ar * grainsACount) ≡ min (y .held) (grainsOfCounts ar) = omega arith in
@@ -96,22 +97,22 @@ stored-host address value h k w t = go (eqb address 1) (eqb address 2)
     go false true = record { mode = t .mode; ar = low-byte (h .ar) (k .ar) value (t .ar) w }
     go false false = record { mode = t .mode; ar = high-byte (h .ar) (k .ar) value (t .ar) }
 
-obeyed-ar : (command : Command) (c : List ℕ) (h : Host) (x : History) → h .ar ≡ x .host .ar
+obeyed-ar : (command : Command) (c : Settings) (h : Host) (x : History) → h .ar ≡ x .host .ar
     → (hostObeyed command (termsOf c) h) .ar ≡ (afterCommand command x) .host .ar
-unfolding hostObeyed commanded fullIf openedHost afterCommand openedHistory
+unfolding hostObeyed commanded fullIf openedHost afterCommand startedHistory
 obeyed-ar Wrtnac c h x e = e
 obeyed-ar Done c h x e = e
 obeyed-ar Prst c h x e = refl
 obeyed-ar Frst c h x e = refl
 obeyed-ar Wrtlmd c h x e = e
 
-obeyed-mode : (command : Command) (c : List ℕ) (h : Host) (m : ℕ)
+obeyed-mode : (command : Command) (c : Settings) (h : Host) (m : ℕ)
     → highestCommandBit ((hostObeyed command (termsOf c) h) .mode) ≡ highestCommandBit (commandsCleared m)
 unfolding hostObeyed
 obeyed-mode command c h m =
     commands-cleared-bit ((commanded command (termsOf c) h) .mode) ∙ sym (commands-cleared-bit m)
 
-pub obeyed-host : (command : Command) (c : List ℕ) (h : Host) (x : History) → h .ar ≡ x .host .ar
+pub obeyed-host : (command : Command) (c : Settings) (h : Host) (x : History) → h .ar ≡ x .host .ar
     → HostTracks (hostObeyed command (termsOf c) h) ((withoutCommand (afterCommand command x)) .host)
 obeyed-host command c h x e =
     record { mode = obeyed-mode command c h ((afterCommand command x) .host .mode); ar = obeyed-ar command c h x e }

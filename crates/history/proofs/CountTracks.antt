@@ -21,7 +21,7 @@ use Rattle.refusals.specs.Refusal as Refusal
 use Rattle.sample.specs.Current.{discharge}
 use Rattle.sample.specs.Range.{currentOf}
 use Rattle.history.specs.Counts.{Counts, countsAfterRest, countsAfterWindow, cycleCount, discharged, restCount}
-use Rattle.history.specs.History.{afterCommand, openedHistory}
+use Rattle.history.specs.History.{afterCommand, startedHistory}
 use Rattle.history.specs.Kept.{History}
 use Rattle.history.specs.Sums.{grainsACount}
 use Rattle.history.proofs.WindowTracks.{no-outflow}
@@ -94,7 +94,7 @@ module _ (y : Counters) (x : Counts) (k : CountTracks y x) where
 
 pub command-counts : (command : Command) (y : Counters) (x : History) → CountTracks y (x .counts)
     → CountTracks (countersObeyed command y) ((afterCommand command x) .counts)
-unfolding countersObeyed openedCounters noCycles afterCommand openedHistory
+unfolding countersObeyed openedCounters noCycles afterCommand startedHistory
 command-counts Wrtnac y x k = k
 command-counts Done y x k = k
 command-counts Prst y x k = record { rests = refl; cycles = k .cycles; drain = k .drain }

@@ -12,6 +12,7 @@ use borrow.Author.Tests.{eqb-true, eqb-false}
 use Rattle.charge.specs.Charge.{openedCharge}
 use Rattle.charge.proofs.ChargeLaws.{RunSound}
 use Rattle.configuration.specs.Configuration.{dmf, ilmd, s0}
+use Rattle.configuration.specs.Settings.{openedSettings, settingsAccepted}
 use Rattle.configuration.specs.Terms.{termsOf}
 use Rattle.counters.specs.Counters.{openedCounters}
 use Rattle.counters.specs.Cycles.{noCycles}
@@ -32,7 +33,7 @@ use Rattle.history.specs.After.{after, gaugeAfter, numberOf}
 use Rattle.history.specs.Call.{Call}
 use Rattle.history.specs.Call as Call
 use Rattle.history.specs.Claim.{Agrees, Demand3, FromAnyGauge, begun, drainOf, runOf}
-use Rattle.history.specs.History.{afterCall, afterCalls, afterWork, openedHistory}
+use Rattle.history.specs.History.{afterCall, afterCalls, afterWork, openedHistory, startedHistory}
 use Rattle.history.specs.Kept.{History}
 use Rattle.history.specs.Refused.{refusalOf}
 use Rattle.history.proofs.AnswerLaws.{rest-in-range, window-in-range}
@@ -127,7 +128,7 @@ begun-beside : (g : Gauge) → Standing g → Beside g (begun g)
 unfolding begun
 begun-beside g s =
     record {
-      configuration = refl;
+      settings = refl;
       tracks = record { held = fixed-is (g .charge .held); lmd = refl; run = run-begun (g .charge .run) (s .sound .charge .run) };
       host = record { mode = refl; ar = refl };
       counts = begun-counts (g .counters) (s .counters);
@@ -144,23 +145,24 @@ opened-number true false e = (refl, refl)
 opened-number false u e = let z : ⊥ = omega arith in absurd z
 
 pub opened-stands : (c : List ℕ) → ((k : ℕ) → getD c k 0 < 256) → openRefusal c ≡ 0 → Standing (opened c)
-unfolding opened openRefusal
+unfolding opened openRefusal settingsAccepted
 opened-stands c bytes e =
-    let o = opened-number (eqb (length c) 10) (eqb (ilmd c) 0) e in
-    let n : ilmd c ≡ 0 → ⊥ = eqb-false (ilmd c) 0 (o .1) in
+    let s = openedSettings c in
+    let o = opened-number (eqb (length c) 10) (eqb (ilmd s) 0) e in
+    let n : ilmd s ≡ 0 → ⊥ = eqb-false (ilmd s) 0 (o .1) in
     let q = bytes 0 in
-    let b = opened-bounded (termsOf c) (omega arith) (omega arith) in
+    let b = opened-bounded (termsOf s) (omega arith) (omega arith) in
     record {
-      ten = record { ten = eqb-true (length c) 10 (o .0); bytes = bytes };
+      settings = record { ten = eqb-true (length c) 10 (o .0); bytes = bytes };
       sound = record {
-        ilmd = not-is-true (eqb (ilmd c) 0) (o .1);
+        settings = not-is-true (eqb (ilmd s) 0) (o .1);
         charge = b .sound;
-        standby = opened-standby (s0 c);
-        sample = no-sample (dmf c);
+        standby = opened-standby (s0 s);
+        sample = no-sample (dmf s);
         counters = opened-accepted;
       };
       lmd = b .lmd;
-      host = opened-fits c (bytes 6);
+      host = opened-fits s (bytes 6);
       counters = opened-counters;
     }
 
@@ -173,7 +175,7 @@ opened-answer c e = rw e
 
 -- the opened history is the one that begins at the opened gauge, MODE and AR too
 pub opened-begun : (c : List ℕ) → openedHistory c ≡ begun (opened c)
-unfolding openedHistory begun opened openedCharge openedHost openedCounters noCycles
+unfolding startedHistory begun opened openedCharge openedHost openedCounters noCycles
 opened-begun c = refl
 
 pub demand-3 : Demand3

@@ -41,17 +41,17 @@ use Rattle.standby.proofs.StandbyKept.{averaged-kept}
 
 module _ (g : Gauge) (s : Standing g) where
   window-stands : (a v t : ℤ) → InRange a v t
-      → Standing (window (counted (dmf (g .configuration)) (current a)) (voltage v) (temperature t) g)
+      → Standing (window (counted (dmf (g .settings)) (current a)) (voltage v) (temperature t) g)
   unfolding window summed reachedIn reachedBy chargeReached
   window-stands a v t r =
-      let c = g .configuration in
+      let c = g .settings in
       let i = counted (dmf c) (current a) in
       let b = window-bounded (termsOf c) (leakRate (sd c) (temperature t)) i (voltage v) (temperature t) (g .charge) (bounded g s)
       (rate-low c (temperature t)) (counted-within (dmf c) a (r .current)) in
       record {
-        ten = s .ten;
+        settings = s .settings;
         sound = record {
-          ilmd = s .sound .ilmd;
+          settings = s .sound .settings;
           charge = b .sound;
           standby = averaged-kept (s0 c) (g .standby) (discharge i) (s .sound .standby);
           sample = window-sample (dmf c) a v t (r .current) (r .voltage) (r .temperature);
@@ -65,12 +65,12 @@ module _ (g : Gauge) (s : Standing g) where
   pub rest-stands : (n : ℕ) (t : ℤ) → temperatureInRange t ≡ true → Standing (rest n (temperature t) g)
   unfolding rest
   rest-stands n t r =
-      let c = g .configuration in
+      let c = g .settings in
       let b = rest-bounded n (leakRate (sd c) (temperature t)) (g .charge) (bounded g s) (rate-low c (temperature t)) in
       record {
-        ten = s .ten;
+        settings = s .settings;
         sound = record {
-          ilmd = s .sound .ilmd;
+          settings = s .sound .settings;
           charge = b .sound;
           standby = s .sound .standby;
           sample = rest-sample (dmf c) (g .sample) t (s .sound .sample) r;
@@ -85,9 +85,9 @@ module _ (g : Gauge) (s : Standing g) where
   unfolding storedAt
   stored-stands address value small =
       record {
-        ten = s .ten;
+        settings = s .settings;
         sound = record {
-          ilmd = s .sound .ilmd;
+          settings = s .sound .settings;
           charge = s .sound .charge;
           standby = s .sound .standby;
           sample = s .sound .sample;

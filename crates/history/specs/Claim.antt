@@ -62,7 +62,7 @@ drainOf run = cond (run .vdq) (some (run .dcr)) none
 unfoldable pub begun : Gauge → History
 begun g =
     record {
-      configuration = g .configuration;
+      settings = g .settings;
       account = fixing (g .charge .held) (g .charge .lmd) (drainOf (g .charge .run));
       host = g .host;
       counts = record { rests = g .counters .rests; cycles = g .counters .cycles .cyct; drain = g .counters .cycles .drain };

@@ -11,7 +11,9 @@ use Rattle.command.specs.declared.command.Command.{Command}
 use Rattle.command.specs.declared.command.Command.the-variants.{Wrtnac, Done, Prst, Frst, Wrtlmd}
 use Rattle.command.specs.declared.command.Decision.{Decision}
 use Rattle.command.specs.declared.command.Decision.the-variants.{Obey, Refused}
+use Rattle.configuration.specs.Settings.{openedSettings}
 use Rattle.configuration.specs.Terms.{termsOf}
+use Rattle.configuration.specs.declared.settings.Settings.{Settings}
 use Rattle.host.specs.Host.{commandsCleared}
 use Rattle.host.specs.declared.host.Host.{Host}
 use Rattle.numbers.specs.Signed.{atLeastZero}
@@ -25,14 +27,18 @@ use Rattle.history.specs.Sums.{chargeOf, grainsACount}
 use Rattle.history.specs.Tests.{countedCurrent}
 
 -- "It starts with P, Q and K 0, L the design capacity, no run, MODE and AR as opened."; nothing is counted yet
-unfoldable pub openedHistory : List ℕ → History
-openedHistory configuration =
+unfoldable pub startedHistory : Settings → History
+startedHistory settings =
     record {
-      configuration = configuration;
-      account = fixing 0 ((termsOf configuration) .capacity) none;
-      host = record { mode = (termsOf configuration) .mode; ar = 0 };
+      settings = settings;
+      account = fixing 0 ((termsOf settings) .capacity) none;
+      host = record { mode = (termsOf settings) .mode; ar = 0 };
       counts = noCounts;
     }
+
+-- "It is fed the opened configuration"
+abbrev pub openedHistory : List ℕ → History
+openedHistory configuration = startedHistory (openedSettings configuration)
 
 -- ---- "Host write"
 
@@ -51,8 +57,8 @@ afterCommand Wrtnac x =
     withAccount (fixing (min (x .host .ar) (x .account .learned) * grainsACount) (x .account .learned) none) x
 afterCommand Done x = withAccount (fixing (x .account .learned * grainsACount) (x .account .learned) (some 0)) x
 afterCommand Prst x =
-    withCounts (countsAfterPrst (x .counts)) (withHost ((openedHistory (x .configuration)) .host) (withAccount (withRun none (x .account)) x))
-afterCommand Frst x = openedHistory (x .configuration)
+    withCounts (countsAfterPrst (x .counts)) (withHost ((startedHistory (x .settings)) .host) (withAccount (withRun none (x .account)) x))
+afterCommand Frst x = startedHistory (x .settings)
 afterCommand Wrtlmd x =
     withAccount (fixing (min (atLeastZero (chargeOf (x .account .sums))) (x .host .ar * grainsACount)) (x .host .ar) none) x
 
@@ -73,10 +79,10 @@ afterWrite address value x =
 
 unfoldable pub afterWork : Call → History → History
 afterWork (window a v t) x =
-    withCounts (countsAfterWindow (x .account .learned) (countedCurrent (termsOf (x .configuration)) a) (x .counts))
-    (withAccount (afterWindow (termsOf (x .configuration)) (countedCurrent (termsOf (x .configuration)) a) v t (x .account)) x)
+    withCounts (countsAfterWindow (x .account .learned) (countedCurrent (termsOf (x .settings)) a) (x .counts))
+    (withAccount (afterWindow (termsOf (x .settings)) (countedCurrent (termsOf (x .settings)) a) v t (x .account)) x)
 afterWork (rest n t) x =
-    withCounts (countsAfterRest n (x .counts)) (withAccount (afterRest (termsOf (x .configuration)) n t (x .account)) x)
+    withCounts (countsAfterRest n (x .counts)) (withAccount (afterRest (termsOf (x .settings)) n t (x .account)) x)
 afterWork (write address value) x = afterWrite address (value .number) x
 afterWork (read address count place replyLength) x = x
 afterWork (preview key replyLength) x = x

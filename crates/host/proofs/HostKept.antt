@@ -1,6 +1,5 @@
 -- MODE stays a byte and AR two bytes through a full, a stored byte and a command. Assumes nothing.
 use mathlib.Core.Bool.{Bool, true, false, cond}
-use mathlib.Core.List.{List}
 use Prim.Native.Nat.{ℕ, _+_, _*_, _<_, _≤_}
 use native.Mathlib.Omega.{arith}
 use lib.Dec.{eqb}
@@ -8,6 +7,7 @@ use Rattle.command.specs.declared.command.Command.{Command}
 use Rattle.command.specs.declared.command.Command.the-variants.{Wrtnac, Done, Prst, Frst, Wrtlmd}
 use Rattle.configuration.specs.Configuration.{pkcfg}
 use Rattle.configuration.specs.Terms.{termsOf}
+use Rattle.configuration.specs.declared.settings.Settings.{Settings}
 use Rattle.configuration.proofs.ModeLaws.{opened-mode-is}
 use Rattle.host.specs.Host.{commanded, commandsCleared, fullIf, hostObeyed, initCleared, openedHost, stored}
 use Rattle.host.specs.declared.host.Host.{Host}
@@ -49,9 +49,9 @@ unfolding fullIf
 full-fits true h f = record { mode = init-cleared-fits (h .mode); ar = f .ar }
 full-fits false h f = record { mode = f .mode; ar = f .ar }
 
-pub opened-fits : (c : List ℕ) → pkcfg c < 256 → HostFits (openedHost (termsOf c))
+pub opened-fits : (s : Settings) → pkcfg s < 256 → HostFits (openedHost (termsOf s))
 unfolding openedHost
-opened-fits c p = let e = opened-mode-is c p in record { mode = omega arith; ar = omega arith }
+opened-fits s p = let e = opened-mode-is s p in record { mode = omega arith; ar = omega arith }
 
 -- ---- a stored byte, a command
 
@@ -70,10 +70,10 @@ stored-fits address value h small f = go (eqb address 1) (eqb address 2)
     go false true = let x = w in record { mode = f .mode; ar = omega arith }
     go false false = let x = w in record { mode = f .mode; ar = omega arith }
 
-pub obeyed-fits : (command : Command) (c : List ℕ) (h : Host) → HostFits h → HostFits (hostObeyed command (termsOf c) h)
+pub obeyed-fits : (command : Command) (s : Settings) (h : Host) → HostFits h → HostFits (hostObeyed command (termsOf s) h)
 unfolding hostObeyed commanded openedHost fullIf
-obeyed-fits Wrtnac c h f = record { mode = commands-cleared-fits _; ar = f .ar }
-obeyed-fits Done c h f = record { mode = commands-cleared-fits _; ar = f .ar }
-obeyed-fits Prst c h f = record { mode = commands-cleared-fits _; ar = omega arith }
-obeyed-fits Frst c h f = record { mode = commands-cleared-fits _; ar = omega arith }
-obeyed-fits Wrtlmd c h f = record { mode = commands-cleared-fits _; ar = f .ar }
+obeyed-fits Wrtnac s h f = record { mode = commands-cleared-fits _; ar = f .ar }
+obeyed-fits Done s h f = record { mode = commands-cleared-fits _; ar = f .ar }
+obeyed-fits Prst s h f = record { mode = commands-cleared-fits _; ar = omega arith }
+obeyed-fits Frst s h f = record { mode = commands-cleared-fits _; ar = omega arith }
+obeyed-fits Wrtlmd s h f = record { mode = commands-cleared-fits _; ar = f .ar }

@@ -3,8 +3,8 @@ ghost use mathlib.Core.Path.{_≡_};
 ghost use Rattle.configuration.specs.Terms.{termsOf};
 ghost use Rattle.host.specs.Host as Spec;
 use command::command::Command;
-use configuration::configuration::Configuration;
 use configuration::configuration::opened_mode;
+use configuration::settings::Settings;
 use numbers::little::pair_of;
 
 pub struct Host {
@@ -27,10 +27,10 @@ fn commands_cleared(mode: u8) -> u8
 }
 
 impl Host {
-    pub fn opened(configuration: Configuration) -> Host
-        ensures { λ r. ⌜ r ≡ Spec.openedHost (termsOf configuration) ⌝ }
+    pub fn opened(settings: Settings) -> Host
+        ensures { λ r. ⌜ r ≡ Spec.openedHost (termsOf settings) ⌝ }
     {
-        let mode = opened_mode(configuration);
+        let mode = opened_mode(settings);
         Host { mode, ar: 0 }
     }
 
@@ -62,22 +62,22 @@ impl Host {
     }
 
     // MODE and AR before the command bits are cleared.
-    fn commanded(self, command: Command, configuration: Configuration) -> Host
-        ensures { λ r. ⌜ r ≡ Spec.commanded command (termsOf configuration) self ⌝ }
+    fn commanded(self, command: Command, settings: Settings) -> Host
+        ensures { λ r. ⌜ r ≡ Spec.commanded command (termsOf settings) self ⌝ }
     {
         match command {
             Command::Wrtnac => self,
             Command::Done => self.full_if(true),
-            Command::Prst => Host::opened(configuration),
-            Command::Frst => Host::opened(configuration),
+            Command::Prst => Host::opened(settings),
+            Command::Frst => Host::opened(settings),
             Command::Wrtlmd => self,
         }
     }
 
-    pub fn obeyed(self, command: Command, configuration: Configuration) -> Host
-        ensures { λ r. ⌜ r ≡ Spec.hostObeyed command (termsOf configuration) self ⌝ }
+    pub fn obeyed(self, command: Command, settings: Settings) -> Host
+        ensures { λ r. ⌜ r ≡ Spec.hostObeyed command (termsOf settings) self ⌝ }
     {
-        let mut commanded = self.commanded(command, configuration);
+        let mut commanded = self.commanded(command, settings);
         commanded.mode = commands_cleared(commanded.mode);
         commanded
     }

@@ -55,7 +55,7 @@ decoded-holds bytes w e =
 
 -- a gauge with another SI
 abbrev withStandby : ℕ → Gauge → Gauge
-withStandby standby g = gaugeOf (g .configuration) (g .charge) (g .sample) standby (g .flags) (g .host) (g .counters)
+withStandby standby g = gaugeOf (g .settings) (g .charge) (g .sample) standby (g .flags) (g .host) (g .counters)
 
 -- the gauge that bytes of a form's length hold in its places
 abbrev inPlaces : Form → List ℕ → Gauge
@@ -65,7 +65,7 @@ inPlaces form bytes = loaded (placesOf (lengthOf (form .fields))) bytes
 record CarriedOver (form : Form) (units : Bool) : Type 0 where
   fits : (bytes : List ℕ)
       → fitsAs (form .number) (lengthOf (form .fields)) form bytes ≡ fitsAs (form .number) (lengthOf (form .fields)) newest bytes
-  held : (bytes : List ℕ) → cond units (unitsFit (s0 ((inPlaces form bytes) .configuration)) ((inPlaces form bytes) .standby)) true ≡ standbyFits form bytes
+  held : (bytes : List ℕ) → cond units (unitsFit (s0 ((inPlaces form bytes) .settings)) ((inPlaces form bytes) .standby)) true ≡ standbyFits form bytes
   gauge : (bytes : List ℕ)
       → withStandby (cond units (sixteenths ((inPlaces form bytes) .standby)) ((inPlaces form bytes) .standby)) (inPlaces form bytes) ≡ loaded form bytes
 
@@ -108,13 +108,13 @@ module _ {bytes : List ℕ} {first : ℕ} {form : Told} {fit : Bool} (k : Tested
     pub fit-length : length bytes ≡ toldLength first
     fit-length = eqb-true (length bytes) (toldLength first) (and-left (eqb (length bytes) (toldLength first)) _ (sym fit-is ∙ good))
 
-    module _ {g : Gauge} {held : Bool} (p : g ≡ loaded (placesOf (length bytes)) bytes) (h : held ≡ heldFits first (s0 (g .configuration)) (g .standby)) where
+    module _ {g : Gauge} {held : Bool} (p : g ≡ loaded (placesOf (length bytes)) bytes) (h : held ≡ heldFits first (s0 (g .settings)) (g .standby)) where
       in-places : g ≡ inPlaces (told first) bytes
       in-places = p ∙ ap (λ (n : ℕ). loaded (placesOf n) bytes) fit-length
 
       held-is : held ≡ standbyFits (told first) bytes
       unfolding read heldFits
-      held-is = h ∙ ap (λ (x : Gauge). heldFits first (s0 (x .configuration)) (x .standby)) in-places ∙ read .held bytes
+      held-is = h ∙ ap (λ (x : Gauge). heldFits first (s0 (x .settings)) (x .standby)) in-places ∙ read .held bytes
 
       pub held-misfit : held ≡ false → formFits (told first) bytes ≡ false
       unfolding formFits

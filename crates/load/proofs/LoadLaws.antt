@@ -14,6 +14,8 @@ use Rattle.flags.specs.declared.flags.Flags as Flag
 use Rattle.form.specs.Form.{Ar, Configuration, Current, CycleDrain, Cyct, Dcr, Flags, FormNumber, Held, Lmd, Mode, Rests, Sixteenths}
 use Rattle.form.specs.Form.{Form, Name, Temperature, Voltage, bytesOf, has, lengthOf, newest, numberOf, placeOf, savedLength}
 use Rattle.form.specs.Signed.{currentOf}
+use Rattle.configuration.specs.Settings.{openedSettings}
+use Rattle.configuration.specs.declared.settings.Settings.{Settings}
 use Rattle.counters.specs.declared.counters.Counters.{Counters}
 use Rattle.counters.proofs.CountersLaws.{countersOf}
 use Rattle.counters.proofs.CyclesLaws.{cyclesOf}
@@ -60,7 +62,7 @@ pub fields-alike : (form : Form) (a b : List ℕ) → ((n : Name) → T (has n (
     → bytesOf Configuration newest a ≡ bytesOf Configuration form b → has Sixteenths (form .fields) ≡ true → loaded newest a ≡ loaded form b
 unfolding loaded loadedCharge loadedSample loadedHost loadedCounters
 fields-alike form a b same configuration sixteenth =
-    gauge-alike configuration (charge-alike (same Held tt) (same Lmd tt) (ap vdqOf (same Flags tt)) (same Dcr tt))
+    gauge-alike (ap openedSettings configuration) (charge-alike (same Held tt) (same Lmd tt) (ap vdqOf (same Flags tt)) (same Dcr tt))
     (sample-alike (ap currentOf (same Current tt)) (same Voltage tt) (same Temperature tt)) (same Sixteenths tt ∙ simp sixteenth)
     (ap flagsOf (same Flags tt)) (host-alike (same Mode tt) (same Ar tt)) (counters-alike (same Rests tt) (same Cyct tt) (same CycleDrain tt))
 
@@ -90,12 +92,13 @@ module _ (bytes : List ℕ) where
   unfolding loadedCounters
   counters-is p q r = counters-alike p q r
 
-  pub gauge-is : {c : List ℕ} {x : Charge} {s : Sample} {i b : ℕ} {f : Flag.Flags} {h : Host} {m : Counters} → c ≡ bytesOf Configuration newest bytes
+  pub gauge-is : {c : List ℕ} {k : Settings} {x : Charge} {s : Sample} {i b : ℕ} {f : Flag.Flags} {h : Host} {m : Counters} → c ≡ bytesOf Configuration newest bytes
+      → k ≡ openedSettings c
       → x ≡ loadedCharge newest bytes → s ≡ loadedSample newest bytes → i ≡ numberOf Sixteenths newest bytes
       → b ≡ getD bytes (placeOf Flags (newest .fields)) 0 → f ≡ flagsOf b → h ≡ loadedHost newest bytes → m ≡ loadedCounters newest bytes
-      → gaugeOf c x s i f h m ≡ loaded newest bytes
+      → gaugeOf k x s i f h m ≡ loaded newest bytes
   unfolding loaded
-  gauge-is o p q r s t w z = gauge-alike o p q r (t ∙ ap flagsOf (flags-is s)) w z
+  gauge-is o l p q r s t w z = gauge-alike (l ∙ ap openedSettings o) p q r (t ∙ ap flagsOf (flags-is s)) w z
 
   -- ---- the tests of a length and a number
 

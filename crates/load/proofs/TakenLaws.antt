@@ -61,7 +61,7 @@ module _ (form : Form) (s : List ℕ) (small : (k : ℕ) → getD s k 0 < 256) w
       let mode = within Mode tt in
       taken (loaded form s)
       (record {
-        ten = record {
+        settings = record {
           ten = bytes-length (widthOf Configuration fields) (placeOf Configuration fields) s ∙ ten;
           bytes = at-small (widthOf Configuration fields) (placeOf Configuration fields) s small;
         };

@@ -7,6 +7,7 @@ use lib.Dec.{eqb, leb}
 use lib.ListN.{length, replicate}
 use Rattle.charge.specs.declared.charge.Charge.{Charge}
 use Rattle.configuration.specs.Configuration.{s0}
+use Rattle.configuration.specs.Settings.{openedSettings}
 use Rattle.counters.specs.declared.counters.Counters.{Counters}
 use Rattle.flags.specs.Byte.{flagsFit, flagsOf, vdqOf}
 use Rattle.form.specs.Form.{Ar, Configuration, Current, CycleDrain, Cyct, Dcr, Flags, FormNumber, Held, Lmd, Mode, Rests, Sixteenths, Standby}
@@ -58,7 +59,7 @@ loadedCounters form bytes =
 unfoldable pub loaded : Form → List ℕ → Gauge
 loaded form bytes =
     record {
-      configuration = bytesOf Configuration form bytes;
+      settings = openedSettings (bytesOf Configuration form bytes);
       charge = loadedCharge form bytes;
       sample = loadedSample form bytes;
       standby = loadedStandby form bytes;
@@ -75,7 +76,7 @@ unitsFit s units = leb units (2 * s)
 
 -- form 1 is held to that before the multiplication; the sixteenths are held to their limit with the gauge value
 abbrev pub standbyFits : Form → List ℕ → Bool
-standbyFits form bytes = cond (has Standby (form .fields)) (unitsFit (s0 (bytesOf Configuration form bytes)) (numberOf Standby form bytes)) true
+standbyFits form bytes = cond (has Standby (form .fields)) (unitsFit (s0 (openedSettings (bytesOf Configuration form bytes))) (numberOf Standby form bytes)) true
 
 -- a length and a number, and the flags that a gauge value has no room for: "CHGS exactly if c > 0, other flag bits 0"
 abbrev pub fitsAs : ℕ → ℕ → Form → List ℕ → Bool

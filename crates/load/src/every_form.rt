@@ -12,8 +12,8 @@ use crate::load::decoded;
 use crate::load::in_form;
 use crate::load::rejected;
 use crate::load::unless_rejected;
-use configuration::configuration::Configuration;
 use configuration::configuration::s0;
+use configuration::settings::Settings;
 use form::form::AT_CYCT;
 use form::form::AT_FORM;
 use form::form::FORM;
@@ -71,12 +71,12 @@ fn told_by(first: u8) -> Told
 }
 
 // "SI ≤ 2 × S0", of SI in units; what fits can be multiplied by 16 in two bytes.
-fn held_fits(first: u8, configuration: Configuration, standby: u16) -> bool
-    ensures { λ r. ⌜ r ≡ Spec.heldFits first ((termsOf configuration) .s0) standby ⌝ }
+fn held_fits(first: u8, settings: Settings, standby: u16) -> bool
+    ensures { λ r. ⌜ r ≡ Spec.heldFits first ((termsOf settings) .s0) standby ⌝ }
     ensures range { λ r. ⌜ (first ≡ form1 .number → r ≡ true → standby ≤ 1_020) ⌝ }
 {
     if first == FORM_1 {
-        return standby <= 2 * s0(configuration);
+        return standby <= 2 * s0(settings);
     }
     true
 }
@@ -146,8 +146,8 @@ pub fn load(bytes: &[u8]) -> Answer
         return rejected();
     }
     let mut gauge = decoded_in_newest(bytes, first);
-    let configuration = gauge.configuration;
-    if !held_fits(first, configuration, gauge.standby) {
+    let settings = gauge.settings;
+    if !held_fits(first, settings, gauge.standby) {
         return rejected();
     }
     gauge.standby = carried_standby(first, gauge.standby);

@@ -3,6 +3,7 @@ ghost use mathlib.Core.Path.{_≡_};
 ghost use Rattle.form.specs.Form.{newest};
 ghost use Rattle.load.specs.Load as Spec;
 use charge::charge::Charge;
+use configuration::settings::Settings;
 use counters::counters::Counters;
 use counters::cycles::Cycles;
 use flags::byte::flags_fit;
@@ -86,7 +87,7 @@ fn loaded_counters(bytes: &[u8]) -> Counters
 fn loaded_gauge(bytes: &[u8]) -> Gauge
     ensures { λ r. ⌜ r ≡ Spec.loaded newest (now (bytes .entry)) ⌝ }
 {
-    let configuration = ten_at(bytes, AT_CONFIGURATION);
+    let settings = Settings::opened(ten_at(bytes, AT_CONFIGURATION));
     let charge = loaded_charge(bytes);
     let sample = loaded_sample(bytes);
     let standby = two_at(bytes, AT_STANDBY);
@@ -94,7 +95,7 @@ fn loaded_gauge(bytes: &[u8]) -> Gauge
     let host = loaded_host(bytes);
     let counters = loaded_counters(bytes);
     Gauge {
-        configuration,
+        settings,
         charge,
         sample,
         standby,

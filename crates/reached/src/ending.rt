@@ -2,11 +2,11 @@
 ghost use mathlib.Core.Path.{_≡_};
 ghost use Rattle.configuration.specs.Terms.{termsOf};
 ghost use Rattle.reached.specs.Ending as Spec;
-use configuration::configuration::Configuration;
 use configuration::configuration::cold_threshold;
 use configuration::configuration::e1;
 use configuration::configuration::edvf;
 use configuration::configuration::s0;
+use configuration::settings::Settings;
 
 pub enum Ending {
     // no discharge, or the voltage above E1
@@ -20,38 +20,38 @@ pub enum Ending {
 }
 
 // "t ≥ 4 × (273 + TOFF) and IAV > 2 × S0".
-fn may_teach(configuration: Configuration, discharge: u16, temperature: u16) -> bool
-    ensures { λ r. ⌜ r ≡ Spec.mayTeach (termsOf configuration) discharge temperature ⌝ }
+fn may_teach(settings: Settings, discharge: u16, temperature: u16) -> bool
+    ensures { λ r. ⌜ r ≡ Spec.mayTeach (termsOf settings) discharge temperature ⌝ }
 {
-    if temperature < cold_threshold(configuration) {
+    if temperature < cold_threshold(settings) {
         return false;
     }
-    2 * (s0(configuration) as u32) < discharge as u32
+    2 * (s0(settings) as u32) < discharge as u32
 }
 
 pub fn ending_of(
-    configuration: Configuration,
+    settings: Settings,
     vdq: bool,
     discharge: u16,
     voltage: u16,
     temperature: u16,
 ) -> Ending
-    ensures { λ r. ⌜ r ≡ Spec.endingOf (termsOf configuration) vdq discharge voltage temperature ⌝ }
+    ensures { λ r. ⌜ r ≡ Spec.endingOf (termsOf settings) vdq discharge voltage temperature ⌝ }
 {
     if discharge == 0 {
         return Ending::Above;
     }
     // E1 lies above EDVF, so most windows are done with here.
-    if e1(configuration) < voltage {
+    if e1(settings) < voltage {
         return Ending::Above;
     }
-    if voltage <= edvf(configuration) {
+    if voltage <= edvf(settings) {
         return Ending::Edvf;
     }
     if !vdq {
         return Ending::Edv1;
     }
-    if may_teach(configuration, discharge, temperature) {
+    if may_teach(settings, discharge, temperature) {
         return Ending::Qualified;
     }
     Ending::Edv1

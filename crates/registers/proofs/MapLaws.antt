@@ -38,7 +38,7 @@ last-of-five n h k a b c d = omega arith
 
 -- ---- the configuration's bytes stand from 0x76 = 2 * 59 on
 
-configuration-at : (g : Gauge) (k : ℕ) → k < 5 → pairAt g (59 + k) ≡ configurationPair (g .configuration) k
+configuration-at : (g : Gauge) (k : ℕ) → k < 5 → pairAt g (59 + k) ≡ configurationPair (g .settings) k
 unfolding register lookUp rows
 configuration-at g zero h = refl
 configuration-at g (suc zero) h = refl
@@ -50,7 +50,7 @@ configuration-at g (suc (suc (suc (suc (suc k))))) h = absurd (none h)
     none : suc (suc (suc (suc (suc k)))) < 5 → ⊥
     none p = omega arith
 
-pub configuration-shown : (g : Gauge) {pair r : ℕ} → 59 ≤ pair → pair < 64 → r ≡ configurationPair (g .configuration) (pair - 59)
+pub configuration-shown : (g : Gauge) {pair r : ℕ} → 59 ≤ pair → pair < 64 → r ≡ configurationPair (g .settings) (pair - 59)
     → r ≡ pairAt g pair
 configuration-shown g {pair} from to p =
     let e : 59 + (pair - 59) ≡ pair = omega arith in

@@ -38,10 +38,10 @@ drop-shown c (suc n) k h e =
     ∙ ap (λ (b : ℕ). b ∷ drop (suc k) c) low
     ∙ ap (λ (l : List ℕ). byteAt (getD c k 0) 0 ∷ l) (drop-shown c n (suc k) h next)
 
-configuration-from : (g : Gauge) → length (g .configuration) ≡ 10 → ((i : ℕ) → getD (g .configuration) i 0 < 256)
-    → g .configuration ≡ registersFrom g 0x76 10
+configuration-from : (g : Gauge) → length (g .settings .bytes) ≡ 10 → ((i : ℕ) → getD (g .settings .bytes) i 0 < 256)
+    → g .settings .bytes ≡ registersFrom g 0x76 10
 unfolding shownFrom registersFrom register lookUp rows
-configuration-from g e h = let ten : 0 + 10 ≡ length (g .configuration) = omega arith in drop-shown (g .configuration) 10 0 h ten
+configuration-from g e h = let ten : 0 + 10 ≡ length (g .settings .bytes) = omega arith in drop-shown (g .settings .bytes) 10 0 h ten
 
 -- ---- a pair stored
 
@@ -98,7 +98,7 @@ zerosWith part = take 0x76 (replicate registerCount 0) ++ (part ++ drop 10 (drop
 
 -- CEDV and CYCT
 abbrev standing : Gauge → List ℕ → List ℕ
-standing g bytes = withPair 0x2A (g .counters .cycles .cyct) (withPair 0x20 (e1 (g .configuration)) bytes)
+standing g bytes = withPair 0x2A (g .counters .cycles .cyct) (withPair 0x20 (e1 (g .settings)) bytes)
 
 -- the three groups of registers below CEDV, one after the other
 abbrev stored : Gauge → List ℕ → List ℕ
@@ -108,8 +108,8 @@ stored-over : (g : Gauge) → stored g (standing g (zerosWith (registersFrom g 0
 unfolding registersFrom register lookUp rows
 stored-over g = refl
 
-pub whole-stored : (g : Gauge) (part : List ℕ) {b₀ b₁ b₂ b₃ b₄ : List ℕ} {cedv : ℕ} → length (g .configuration) ≡ 10
-    → ((i : ℕ) → getD (g .configuration) i 0 < 256) → part ≡ g .configuration → cedv ≡ e1 (g .configuration)
+pub whole-stored : (g : Gauge) (part : List ℕ) {b₀ b₁ b₂ b₃ b₄ : List ℕ} {cedv : ℕ} → length (g .settings .bytes) ≡ 10
+    → ((i : ℕ) → getD (g .settings .bytes) i 0 < 256) → part ≡ g .settings .bytes → cedv ≡ e1 (g .settings)
     → b₀ ≡ withPair 0x20 cedv (zerosWith part) → b₁ ≡ withPair 0x2A (g .counters .cycles .cyct) b₀ → b₂ ≡ sets b₁ 0x01 (registersFrom g 0x01 9)
     → b₃ ≡ sets b₂ 0x0A (registersFrom g 0x0A 10) → b₄ ≡ sets b₃ 0x14 (registersFrom g 0x14 10) → b₄ ≡ wholeMap g
 whole-stored g part ten bytes c p e₀ e₁ e₂ e₃ e₄ =

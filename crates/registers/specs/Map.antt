@@ -5,6 +5,7 @@ use Prim.Native.Nat.{ℕ, zero, suc, _+_, _-_, _*_}
 use lib.Dec.{leb, ltb}
 use lib.ListN.{getD}
 use Rattle.configuration.specs.Configuration as Configuration
+use Rattle.configuration.specs.declared.settings.Settings.{Settings}
 use Rattle.gauge.specs.declared.state.Gauge.{Gauge}
 use Rattle.numbers.specs.Little.{byteAt}
 use Rattle.registers.specs.Times as Times
@@ -43,18 +44,18 @@ rows g =
     ∷ row 0x18 2 (Times.ttf g)  -- TTF
     ∷ row 0x1A 2 (Values.si g)  -- SI
     ∷ row 0x1C 2 (Times.stte g)  -- STTE
-    ∷ row 0x20 2 (Configuration.e1 (g .configuration))  -- CEDV (= E1)
+    ∷ row 0x20 2 (Configuration.e1 (g .settings))  -- CEDV (= E1)
     ∷ row 0x2A 2 (g .counters .cycles .cyct)  -- CYCT (A5 of paper 02)
-    ∷ row 0x76 1 (Configuration.ilmd (g .configuration))  -- ILMD
-    ∷ row 0x77 1 (Configuration.sedvf (g .configuration))  -- SEDVF
-    ∷ row 0x78 1 (Configuration.sedv1 (g .configuration))  -- SEDV1
-    ∷ row 0x79 1 (Configuration.islc (g .configuration))  -- ISLC
-    ∷ row 0x7A 1 (Configuration.dmfsd (g .configuration))  -- DMFSD
-    ∷ row 0x7B 1 (Configuration.taper (g .configuration))  -- TAPER
-    ∷ row 0x7C 1 (Configuration.pkcfg (g .configuration))  -- PKCFG
-    ∷ row 0x7D 1 (Configuration.id3 (g .configuration))  -- ID3
-    ∷ row 0x7E 1 (Configuration.dcomp (g .configuration))  -- DCOMP
-    ∷ row 0x7F 1 (Configuration.tcomp (g .configuration))  -- TCOMP
+    ∷ row 0x76 1 (Configuration.ilmd (g .settings))  -- ILMD
+    ∷ row 0x77 1 (Configuration.sedvf (g .settings))  -- SEDVF
+    ∷ row 0x78 1 (Configuration.sedv1 (g .settings))  -- SEDV1
+    ∷ row 0x79 1 (Configuration.islc (g .settings))  -- ISLC
+    ∷ row 0x7A 1 (Configuration.dmfsd (g .settings))  -- DMFSD
+    ∷ row 0x7B 1 (Configuration.taper (g .settings))  -- TAPER
+    ∷ row 0x7C 1 (Configuration.pkcfg (g .settings))  -- PKCFG
+    ∷ row 0x7D 1 (Configuration.id3 (g .settings))  -- ID3
+    ∷ row 0x7E 1 (Configuration.dcomp (g .settings))  -- DCOMP
+    ∷ row 0x7F 1 (Configuration.tcomp (g .settings))  -- TCOMP
     ∷ []
 
 -- what stands at an address: the byte of the row that covers it, "other bytes to 0x7F are 0"; "pairs stand low byte first"
@@ -71,8 +72,8 @@ abbrev pub pairAt : Gauge → ℕ → ℕ
 pairAt g n = register g (2 * n) + 256 * register g (2 * n + 1)
 
 -- the pair that the rows of the configuration's bytes 2n and 2n + 1 show
-abbrev pub configurationPair : List ℕ → ℕ → ℕ
-configurationPair c n = byteAt (getD c (2 * n) 0) 0 + 256 * byteAt (getD c (2 * n + 1) 0) 0
+abbrev pub configurationPair : Settings → ℕ → ℕ
+configurationPair s n = byteAt (getD (s .bytes) (2 * n) 0) 0 + 256 * byteAt (getD (s .bytes) (2 * n + 1) 0) 0
 
 -- count registers from an address on
 unfoldable pub registersFrom : Gauge → ℕ → ℕ → List ℕ

@@ -21,7 +21,7 @@ rsoc g = 100 * nac g / g .charge .lmd
 
 -- DCMP(I) at the last TEMP and, "judged against the aged formula", at CYCT (A5 of paper 02)
 abbrev pub agedDcmp : Gauge → ℕ → ℕ
-agedDcmp g i = dcmp (g .configuration) i (g .sample .temperature) (g .counters .cycles .cyct)
+agedDcmp g i = dcmp (g .settings) i (g .sample .temperature) (g .counters .cycles .cyct)
 
 -- "D = DCMP(IAV) if c < 0, else DCMP(0)": the discharge is IAV if c < 0, else 0
 unfoldable pub reduction : Gauge → ℕ

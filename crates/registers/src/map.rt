@@ -14,8 +14,8 @@ use crate::values::fcac;
 use crate::values::nac;
 use crate::values::rsoc;
 use crate::values::si;
-use configuration::configuration::Configuration;
 use configuration::configuration::e1;
+use configuration::settings::Settings;
 use flags::byte::flags_byte;
 use gauge::state::Gauge;
 use numbers::little::pair_of;
@@ -85,22 +85,23 @@ fn current_pair(gauge: Gauge, pair: u32) -> u16
     stte(gauge)
 }
 
-fn configuration_byte(configuration: Configuration, at: usize) -> u8
+fn configuration_byte(settings: Settings, at: usize) -> u8
     requires { ⌜ at < 10 ⌝ }
-    ensures { λ r. ⌜ r ≡ getD configuration at 0 ⌝ }
+    ensures { λ r. ⌜ r ≡ getD (settings .bytes) at 0 ⌝ }
 {
-    configuration[at]
+    let bytes = settings.bytes;
+    bytes[at]
 }
 
 // 0x76 to 0x7F.
-fn configuration_pair(configuration: Configuration, pair: u32) -> u16
+fn configuration_pair(settings: Settings, pair: u32) -> u16
     requires { ⌜ (59 ≤ pair) × (pair < 64) ⌝ }
-    ensures { λ r. ⌜ r ≡ Spec.configurationPair configuration (pair - 59) ⌝ }
+    ensures { λ r. ⌜ r ≡ Spec.configurationPair settings (pair - 59) ⌝ }
 {
     let at = 2 * (pair - 59) as usize;
     pair_of(
-        configuration_byte(configuration, at),
-        configuration_byte(configuration, at + 1),
+        configuration_byte(settings, at),
+        configuration_byte(settings, at + 1),
     )
 }
 
@@ -119,8 +120,8 @@ pub(crate) fn pair_at(gauge: Gauge, pair: u32) -> u16
         return current_pair(gauge, pair);
     }
     if pair == 16 {
-        let configuration = gauge.configuration;
-        return e1(configuration);
+        let settings = gauge.settings;
+        return e1(settings);
     }
     if pair == 21 {
         return gauge.counters.cycles.cyct;
@@ -128,6 +129,6 @@ pub(crate) fn pair_at(gauge: Gauge, pair: u32) -> u16
     if pair < 59 {
         return 0;
     }
-    let configuration = gauge.configuration;
-    configuration_pair(configuration, pair)
+    let settings = gauge.settings;
+    configuration_pair(settings, pair)
 }

@@ -37,9 +37,9 @@ pub(crate) fn artte(gauge: Gauge) -> u16
     requires { ⌜ accepted gauge ≡ true ⌝ }
     ensures { λ r. ⌜ r ≡ Spec.artte gauge ⌝ }
 {
-    let configuration = gauge.configuration;
+    let settings = gauge.settings;
     let reduction = dcmp(
-        configuration,
+        settings,
         gauge.host.ar,
         gauge.sample.temperature,
         gauge.counters.cycles.cyct,

@@ -28,9 +28,9 @@ pub(crate) fn rsoc(gauge: Gauge) -> u8
 fn reduction(gauge: Gauge) -> u64
     ensures { λ r. ⌜ r ≡ Spec.reduction gauge ⌝ }
 {
-    let configuration = gauge.configuration;
+    let settings = gauge.settings;
     dcmp(
-        configuration,
+        settings,
         gauge.sample.current.discharge(),
         gauge.sample.temperature,
         gauge.counters.cycles.cyct,

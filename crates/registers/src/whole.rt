@@ -97,9 +97,10 @@ pub(crate) fn whole_map(gauge: Gauge) -> [u8; REGISTER_COUNT]
     ensures { λ r. ⌜ r ≡ Spec.wholeMap gauge ⌝ }
 {
     let mut bytes = [0u8; REGISTER_COUNT];
-    let configuration = gauge.configuration;
+    let settings = gauge.settings;
+    let configuration = settings.bytes;
     put_configuration(&configuration, &mut bytes[0x76..0x80]);
-    put_pair(&mut bytes, 0x20, e1(configuration));
+    put_pair(&mut bytes, 0x20, e1(settings));
     put_pair(&mut bytes, 0x2A, gauge.counters.cycles.cyct);
     put_host(gauge, &mut bytes);
     put_capacities(gauge, &mut bytes);

@@ -21,7 +21,7 @@ module _ (form : ℕ) (g : Gauge) where
   field-length : (n : Name) (width : ℕ) → length (fieldBytes form g n width) ≡ width
   unfolding fieldBytes
   field-length FormNumber width = little-length width _
-  field-length Configuration width = bytes-length width 0 (g .configuration)
+  field-length Configuration width = bytes-length width 0 (g .settings .bytes)
   field-length Held width = little-length width _
   field-length Dcr width = little-length width _
   field-length Lmd width = little-length width _

@@ -8,6 +8,7 @@ use lib.Dec.{T}
 use lib.ListN.{getD, length}
 use borrow.Author.Tests.{eq-eqb}
 use Rattle.configuration.specs.Configuration.{dmf}
+use Rattle.configuration.specs.Settings.{openedSettings}
 use Rattle.counters.specs.Fits.{CountersFit}
 use Rattle.flags.specs.Byte.{flagsFit, flagsOf, vdqOf}
 use Rattle.flags.proofs.FlagsByteLaws.{byte-accepted, byte-back, byte-fits, flags-back, vdq-back}
@@ -46,7 +47,7 @@ answer number gauge = record { number = number; gauge = gauge }
 
 -- what of `Fits` a gauge needs to read back as itself: the configuration's bytes are saved as they are
 pub record Widths (g : Gauge) : Type 0 where
-  pub ten : length (g .configuration) ≡ 10
+  pub ten : length (g .settings .bytes) ≡ 10
   pub held : g .charge .held < 256 ^ 8
   pub dcr : g .charge .run .dcr < 256 ^ 8
   pub lmd : g .charge .lmd < 256 ^ 2
@@ -61,7 +62,7 @@ pub record Widths (g : Gauge) : Type 0 where
 widths-of : (g : Gauge) → Fits g → Widths g
 widths-of g f =
     record {
-      ten = f .configuration .ten;
+      ten = f .settings .ten;
       held = f .held;
       dcr = f .dcr;
       lmd = f .lmd;
@@ -90,16 +91,16 @@ module _ (g : Gauge) where
   unfolding fieldBytes
   flags-found = found Flags (flagsOfGauge g) tt refl (byte-fits (g .sample .current .charging) (g .charge .run .vdq) (g .flags))
 
-  configuration-found : bytesOf Configuration newest (savedBytes g) ≡ bytesAt 10 0 (g .configuration)
+  configuration-found : bytesOf Configuration newest (savedBytes g) ≡ bytesAt 10 0 (g .settings .bytes)
   unfolding savedBytes fieldBytes
   configuration-found = field-found (newest .number) g Configuration (newest .fields) tt
 
-  module _ (f : Widths g) (a : currentAccepted (dmf (g .configuration)) (g .sample .current) ≡ true) where
+  module _ (f : Widths g) (a : currentAccepted (dmf (g .settings)) (g .sample .current) ≡ true) where
     current-found : currentOf (numberOf Current newest (savedBytes g)) ≡ g .sample .current
     unfolding fieldBytes
     current-found =
         ap currentOf (found Current (signedPair (g .sample .current)) tt refl (pair-fits (g .sample .current) (f .magnitude)))
-        ∙ current-back (dmf (g .configuration)) (g .sample .current) a
+        ∙ current-back (dmf (g .settings)) (g .sample .current) a
 
     -- loading what was saved gives the same gauge
     pub loaded-saved : loaded newest (savedBytes g) ≡ g
@@ -107,7 +108,7 @@ module _ (g : Gauge) where
     loaded-saved =
         let chgs = g .sample .current .charging in
         let vdq = g .charge .run .vdq in
-        gauge-alike (configuration-found ∙ whole 10 (g .configuration) (f .ten))
+        gauge-alike (ap openedSettings (configuration-found ∙ whole 10 (g .settings .bytes) (f .ten)))
         (charge-alike (found Held (g .charge .held) tt refl (f .held)) (found Lmd (g .charge .lmd) tt refl (f .lmd))
         (ap vdqOf flags-found ∙ vdq-back chgs vdq (g .flags)) (found Dcr (g .charge .run .dcr) tt refl (f .dcr)))
         (sample-alike current-found (found Voltage (g .sample .voltage) tt refl (f .voltage))

@@ -32,12 +32,12 @@ module _ (g : Gauge) where
 
   -- the parts, one after the other, are the fields of the form
   parts-put : countersPut (g .counters) (numberPut Flags (flagsOfGauge g) (hostPut (g .host) (samplePut (g .sample) (numberPut Sixteenths (g .standby)
-      (chargePut (g .charge) (headed (g .configuration)))))))
+      (chargePut (g .charge) (headed (g .settings)))))))
       ≡ sets (replicate savedLength 0) 0 (savedBytes g)
   unfolding headed chargePut samplePut hostPut countersPut savedBytes fieldBytes
   parts-put = fields-put (newest .number) g (replicate savedLength 0) 0 (newest .fields)
 
-  pub encoded-is : {b1 b2 b3 b4 b5 b6 b7 : List ℕ} {byte : ℕ} → b1 ≡ headed (g .configuration) → b2 ≡ chargePut (g .charge) b1
+  pub encoded-is : {b1 b2 b3 b4 b5 b6 b7 : List ℕ} {byte : ℕ} → b1 ≡ headed (g .settings) → b2 ≡ chargePut (g .charge) b1
       → b3 ≡ numberPut Sixteenths (g .standby) b2 → b4 ≡ samplePut (g .sample) b3 → b5 ≡ hostPut (g .host) b4 → byte ≡ flagsOfGauge g
       → b6 ≡ numberPut Flags byte b5 → b7 ≡ countersPut (g .counters) b6 → b7 ≡ savedBytes g
   encoded-is {b5 = b5} e1 e2 e3 e4 e5 f e6 e7 =

@@ -4,6 +4,7 @@ use Prim.Native.Nat.{ℕ}
 use lib.ListN.{replicate}
 use lib.Seq.{sets}
 use Rattle.charge.specs.declared.charge.Charge.{Charge}
+use Rattle.configuration.specs.declared.settings.Settings.{Settings}
 use Rattle.counters.specs.declared.counters.Counters.{Counters}
 use Rattle.form.specs.Form.{Ar, Configuration, Current, CycleDrain, Cyct, Dcr, FormNumber, Held, Lmd, Mode, Name, Rests, Temperature, Voltage}
 use Rattle.form.specs.Form.{newest, placeOf, savedLength, widthOf}
@@ -20,8 +21,8 @@ abbrev pub configurationPut : List ℕ → List ℕ → List ℕ
 configurationPut c bytes = sets bytes (placeOf Configuration (newest .fields)) (bytesAt (widthOf Configuration (newest .fields)) 0 c)
 
 -- the form's number and the "configuration", over zeros
-unfoldable pub headed : List ℕ → List ℕ
-headed c = configurationPut c (numberPut FormNumber (newest .number) (replicate savedLength 0))
+unfoldable pub headed : Settings → List ℕ
+headed s = configurationPut (s .bytes) (numberPut FormNumber (newest .number) (replicate savedLength 0))
 
 -- "h and DCR .. LMD"
 unfoldable pub chargePut : Charge → List ℕ → List ℕ

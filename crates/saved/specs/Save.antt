@@ -22,7 +22,7 @@ flagsOfGauge g = flagsByte (g .sample .current .charging) (g .charge .run .vdq) 
 -- the bytes of a field, as many as its width; a number stands low byte first
 unfoldable pub fieldBytes : ℕ → Gauge → Name → ℕ → List ℕ
 fieldBytes form g FormNumber width = little width form
-fieldBytes form g Configuration width = bytesAt width 0 (g .configuration)
+fieldBytes form g Configuration width = bytesAt width 0 (g .settings .bytes)
 fieldBytes form g Held width = little width (g .charge .held)
 fieldBytes form g Dcr width = little width (g .charge .run .dcr)
 fieldBytes form g Lmd width = little width (g .charge .lmd)

@@ -10,7 +10,7 @@ use crate::place::put_four;
 use crate::place::put_one;
 use crate::place::put_two;
 use charge::charge::Charge;
-use configuration::configuration::Configuration;
+use configuration::settings::Settings;
 use counters::counters::Counters;
 use flags::byte::flags_byte;
 use flags::flags::Flags;
@@ -41,9 +41,10 @@ use sample::sample::Sample;
 
 // The form's number and the configuration, over zeros. The ten bytes are stored one by one, so that the compiler sees each where it was
 // read and leaves out the store.
-fn headed(configuration: Configuration) -> Saved
-    ensures { λ r. ⌜ r ≡ Put.headed configuration ⌝ }
+fn headed(settings: Settings) -> Saved
+    ensures { λ r. ⌜ r ≡ Put.headed settings ⌝ }
 {
+    let configuration = settings.bytes;
     let at = AT_CONFIGURATION as usize;
     let mut bytes = [0u8; LENGTH as usize];
     bytes[AT_FORM as usize] = FORM;
@@ -96,14 +97,14 @@ fn put_counters(bytes: &mut Saved, counters: Counters)
 fn encoded(gauge: Gauge) -> Saved
     ensures { λ r. ⌜ r ≡ Spec.savedBytes gauge ⌝ }
 {
-    let configuration = gauge.configuration;
+    let settings = gauge.settings;
     let charge = gauge.charge;
     let sample = gauge.sample;
     let flags = gauge.flags;
     let host = gauge.host;
     let counters = gauge.counters;
     let byte = flags_byte(sample.current.charging, charge.run.vdq, flags);
-    let mut bytes = headed(configuration);
+    let mut bytes = headed(settings);
     put_charge(&mut bytes, charge);
     put_two(&mut bytes, AT_STANDBY, gauge.standby);
     put_sample(&mut bytes, sample);
@@ -128,7 +129,7 @@ fn store(gauge: Gauge, buffer: &mut [u8]) -> u32
 
 // The bytes of a gauge, handed over by its parts, in a buffer of their length, or 13. Nothing is asked of the parts.
 pub fn put(
-    configuration: Configuration,
+    settings: Settings,
     charge: Charge,
     sample: Sample,
     standby: u16,
@@ -138,10 +139,10 @@ pub fn put(
     buffer: &mut [u8],
 ) -> u32
     ensures number { λ r. ⌜ r ≡ Spec.lengthRefusal (length (now (buffer .entry))) ⌝ }
-    ensures bytes { λ _. ⌜ now (buffer .exit) ≡ Spec.putAfter (gaugeOf configuration charge sample standby flags host counters) (now (buffer .entry)) ⌝ }
+    ensures bytes { λ _. ⌜ now (buffer .exit) ≡ Spec.putAfter (gaugeOf settings charge sample standby flags host counters) (now (buffer .entry)) ⌝ }
 {
     let gauge = Gauge {
-        configuration,
+        settings,
         charge,
         sample,
         standby,

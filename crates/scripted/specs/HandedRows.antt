@@ -33,7 +33,7 @@ pub record HandedRows : Type 0 where
   pub open-13 : openNumber bench 54 ≡ 13
   pub open-0 : openNumber bench 55 ≡ 0
   pub open-kept : openBytes bench (replicate 54 7) ≡ replicate 54 7
-  pub open-refused : (openAnswer (take 9 bench)) .gauge .configuration ≡ replicate 10 0
+  pub open-refused : (openAnswer (take 9 bench)) .gauge .settings .bytes ≡ replicate 10 0
   -- a conversion 14, 13
   pub convert-14 : convertNumber (take 52 keptForm4) 54 ≡ 14
   pub convert-13 : convertNumber keptForm4 54 ≡ 13

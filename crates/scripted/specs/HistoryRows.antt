@@ -4,6 +4,7 @@ use mathlib.Core.Bool.{true, false}
 use mathlib.Core.Option.{none, some}
 use mathlib.Core.Path.{_≡_}
 use lib.IntN.{pos, negsuc}
+use Rattle.configuration.specs.Settings.{openedSettings}
 use Rattle.configuration.specs.BenchPack.{benchPack}
 use Rattle.configuration.specs.Terms.{Terms, termsOf}
 use Rattle.drive.specs.Claim.{countsHeld, partOfLearned, runAt}
@@ -18,7 +19,7 @@ use Rattle.scripted.specs.Packs.{keptDischarging, noneSet}
 use Rattle.scripted.specs.Script.{started}
 
 abbrev benchTerms : Terms
-benchTerms = termsOf benchPack
+benchTerms = termsOf (openedSettings benchPack)
 
 pub record HistoryRows : Type 0 where
   -- MODE, AR's low byte and its high one, each beside the others

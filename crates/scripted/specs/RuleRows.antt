@@ -13,6 +13,8 @@ use Rattle.command.specs.Command.{commandOf, highestCommandBit}
 use Rattle.command.specs.declared.command.Command.the-variants.{Prst}
 use Rattle.command.specs.declared.command.Decision.the-variants as Decision
 use Rattle.compensation.specs.Unaged.{dcmpUnaged}
+use Rattle.configuration.specs.Settings.{openedSettings}
+use Rattle.configuration.specs.declared.settings.Settings.{Settings}
 use Rattle.configuration.specs.BenchPack.{benchPack}
 use Rattle.configuration.specs.Configuration.{dcomp, dcompTaken, dmfsd, id3, ilmd, islc, pkcfg, sedv1, sedvf, taper, tcomp}
 use Rattle.flags.specs.Byte.{flagsFit}
@@ -37,12 +39,12 @@ use Rattle.scripted.specs.Packs.{bench, everySet, keptCharging, keptDisc
 use Rattle.scripted.specs.Script.{started}
 
 -- the ten getters, of any bytes
-abbrev tenOf : List ℕ → List ℕ
-tenOf c = ilmd c ∷ sedvf c ∷ sedv1 c ∷ islc c ∷ dmfsd c ∷ taper c ∷ pkcfg c ∷ id3 c ∷ dcomp c ∷ tcomp c ∷ []
+abbrev tenOf : Settings → List ℕ
+tenOf s = ilmd s ∷ sedvf s ∷ sedv1 s ∷ islc s ∷ dmfsd s ∷ taper s ∷ pkcfg s ∷ id3 s ∷ dcomp s ∷ tcomp s ∷ []
 
 -- the DCOMP that is taken of a pack with DCOMP 0x55
 abbrev takenWith : ℕ → ℕ
-takenWith pkcfg = dcompTaken (set (set benchPack 6 pkcfg) 8 0x55)
+takenWith pkcfg = dcompTaken (openedSettings (set (set benchPack 6 pkcfg) 8 0x55))
 
 -- 3 counts and 17 grains, in a run
 abbrev threeCounts : Charge
@@ -66,7 +68,7 @@ pub record RuleRows : Type 0 where
   -- "a byte past the list's end is 0"
   pub number-past : numberAt 2 1 (7 ∷ 8 ∷ []) ≡ 8
   pub bytes-past : bytesAt 3 1 (7 ∷ 8 ∷ []) ≡ 8 ∷ 0 ∷ 0 ∷ []
-  pub bytes-none : tenOf [] ≡ replicate 10 0
+  pub bytes-none : tenOf (openedSettings []) ≡ replicate 10 0
   pub bench-bytes : benchPack ≡ bench
   -- 0x6C is taken with bit 1 of PKCFG alone: 0x01, 0x02, 0x04 and so on to 0x80
   pub taken : takenWith 0x01 ∷ takenWith 0x02 ∷ takenWith 0x04 ∷ takenWith 0x08 ∷ [] ≡ 0x55 ∷ 0x6C ∷ 0x55 ∷ 0x55 ∷ []
@@ -95,20 +97,20 @@ pub record RuleRows : Type 0 where
   pub stop-none : emptyStop noCurrent 0 ≡ false
   pub stop-charging : emptyStop (currentOf (pos 1)) 0 ≡ false
   -- paper 01's compensation, at 1,192 and in the cold at 1,012
-  pub unaged : dcmpUnaged benchPack 3_000 1_192 ≡ 127
-  pub unaged-cold : dcmpUnaged benchPack 3_000 1_012 ≡ 365
+  pub unaged : dcmpUnaged (openedSettings benchPack) 3_000 1_192 ≡ 127
+  pub unaged-cold : dcmpUnaged (openedSettings benchPack) 3_000 1_012 ≡ 365
   -- the greatest current, DCGN, DCOFF, ILMD and TCGN, TOFF 7, at 1,012: 65,535 × 31 × (128 + 31 × 108) = 7,061,789,460, less 4,096 × 31 × 7 × 255 =
   -- 226,652,160, is 208,591.8 × 32,768
-  pub unaged-greatest : dcmpUnaged (set (set (set benchPack 0 0xFF) 8 0xFF) 9 0xFF) 65_535 1_012 ≡ 208_592
+  pub unaged-greatest : dcmpUnaged (openedSettings (set (set (set benchPack 0 0xFF) 8 0xFF) 9 0xFF)) 65_535 1_012 ≡ 208_592
   -- the registers in pairs: TEMP 1,101, LMD 0xA12D; 0x76 and 0x77, 0x7E and 0x7F
   pub pair-temp : pairAt (started keptDischarging) 3 ≡ 1_101
   pub pair-lmd : pairAt (started keptDischarging) 7 ≡ 0xA12D
-  pub pair-first : configurationPair benchPack 0 ≡ 0x5E04
-  pub pair-last : configurationPair benchPack 4 ≡ 0x156C
+  pub pair-first : configurationPair (openedSettings benchPack) 0 ≡ 0x5E04
+  pub pair-last : configurationPair (openedSettings benchPack) 4 ≡ 0x156C
   pub pair-bytes : pairBytes 0x1234 0 2 ≡ 0x34 ∷ 0x12 ∷ []
   pub pair-high : pairBytes 0x1234 1 1 ≡ 0x12 ∷ []
   pub pair-no-third : pairBytes 0x1234 0 3 ≡ 0x34 ∷ 0x12 ∷ []
-  pub pair-of-none : configurationPair [] 0 ≡ 0
+  pub pair-of-none : configurationPair (openedSettings []) 0 ≡ 0
   pub pair-put : withPair 1 0x1234 (replicate 4 7) ≡ 7 ∷ 0x34 ∷ 0x12 ∷ 7 ∷ []
   pub all-refused : (allAnswer refused) .bytes ≡ replicate 128 0
   pub all-14 : (allAnswer refused) .number ≡ 14

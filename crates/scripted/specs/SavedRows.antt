@@ -5,6 +5,7 @@ use mathlib.Core.List.{List, [], _∷_, _++_}
 use mathlib.Core.Path.{_≡_}
 use Prim.Native.Nat.{ℕ, zero, suc, _+_, _*_}
 use lib.ListN.{length, replicate, set, take}
+use Rattle.configuration.specs.Settings.{openedSettings}
 use Rattle.drive.specs.OlderForms.{counts, gaugeOf41}
 use Rattle.form.specs.Form.{Flags, Sixteenths, Standby, form1, form4, formOf, newest, placeOf, widthOf}
 use Rattle.form.specs.InNewest.{inNewest, placesOf}
@@ -29,7 +30,7 @@ abbrev putTogether : Gauge → ℕ → List ℕ
 putTogether g flags =
     countersPut (g .counters)
     (numberPut Flags flags
-    (hostPut (g .host) (samplePut (g .sample) (numberPut Sixteenths (g .standby) (chargePut (g .charge) (headed (g .configuration)))))))
+    (hostPut (g .host) (samplePut (g .sample) (numberPut Sixteenths (g .standby) (chargePut (g .charge) (headed (g .settings)))))))
 
 -- so many bytes, each three more than the one before it
 abbrev spread : ℕ → List ℕ
@@ -49,7 +50,7 @@ pub record SavedRows : Type 0 where
   pub put-55 : putAfter (started everySet) (replicate 55 7) ≡ everySet
   pub reload-0 : (reloadedAnswer (started everySet)) .number ≡ 0
   pub reload-14 : (reloadedAnswer refused) .number ≡ 14
-  pub put-head : headed bench ≡ 5 ∷ (bench ++ replicate 44 0)
+  pub put-head : headed (openedSettings bench) ≡ 5 ∷ (bench ++ replicate 44 0)
   pub put-parts : putTogether (started keptDischarging) 0x06 ≡ keptDischarging
   pub put-parts-charging : putTogether (started keptCharging) 0x95 ≡ keptCharging
   -- loading: the form that a first byte tells, SI of form 1 with S0 310, bytes of another length
@@ -79,7 +80,7 @@ pub record SavedRows : Type 0 where
   pub pair-32767 : Pair.currentOf 32_767 ≡ record { charging = true; magnitude = 32_767 }
   pub pair-32768 : Pair.currentOf 32_768 ≡ record { charging = false; magnitude = 32_768 }
   pub pair-65535 : Pair.currentOf 65_535 ≡ record { charging = false; magnitude = 1 }
-  pub rejected-ten : refused .configuration ≡ replicate 10 0
+  pub rejected-ten : refused .settings .bytes ≡ replicate 10 0
   pub rejected-14 : rejectedAnswer .number ≡ 14
   pub rejected-bytes : savedBytes refused ≡ 5 ∷ (replicate 38 0 ++ (0x44 ∷ 0x10 ∷ replicate 14 0))
   -- a field that the form has not stands behind all others, without a byte
@@ -94,7 +95,7 @@ pub record SavedRows : Type 0 where
   -- the places of the first 41 bytes, of bytes that differ at each place: 3 × place + 1
   pub places-apart : gaugeOf41 (spread 55) 7 (counts 8 9 10)
       ≡ record {
-        configuration = 4 ∷ 7 ∷ 10 ∷ 13 ∷ 16 ∷ 19 ∷ 22 ∷ 25 ∷ 28 ∷ 31 ∷ [];
+        settings = openedSettings (4 ∷ 7 ∷ 10 ∷ 13 ∷ 16 ∷ 19 ∷ 22 ∷ 25 ∷ 28 ∷ 31 ∷ []);
         charge = record { held = 0x3734_312E_2B28_2522; lmd = 0x5552; run = record { vdq = false; dcr = 0x4F4C_4946_4340_3D3A } };
         sample = record { current = record { charging = true; magnitude = 0x615E }; voltage = 0x6764; temperature = 0x6D6A };
         standby = 7;

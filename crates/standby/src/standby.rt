@@ -2,44 +2,44 @@
 ghost use mathlib.Core.Path.{_≡_};
 ghost use Rattle.configuration.specs.Terms.{termsOf};
 ghost use Rattle.standby.specs.Standby as Spec;
-use configuration::configuration::Configuration;
 use configuration::configuration::s0;
+use configuration::settings::Settings;
 
 // As opened.
-pub fn opened_standby(configuration: Configuration) -> u16
-    ensures { λ r. ⌜ r ≡ Spec.openedStandby ((termsOf configuration) .s0) ⌝ }
+pub fn opened_standby(settings: Settings) -> u16
+    ensures { λ r. ⌜ r ≡ Spec.openedStandby ((termsOf settings) .s0) ⌝ }
 {
-    16 * s0(configuration)
+    16 * s0(settings)
 }
 
 // As opened, where a command resets.
-pub fn reset_if(reset: bool, configuration: Configuration, standby: u16) -> u16
-    ensures { λ r. ⌜ r ≡ Spec.standbyReset reset ((termsOf configuration) .s0) standby ⌝ }
+pub fn reset_if(reset: bool, settings: Settings, standby: u16) -> u16
+    ensures { λ r. ⌜ r ≡ Spec.standbyReset reset ((termsOf settings) .s0) standby ⌝ }
 {
     if reset {
-        return opened_standby(configuration);
+        return opened_standby(settings);
     }
     standby
 }
 
 // Averaged over light loads.
-pub fn averaged(configuration: Configuration, standby: u16, discharge: u16) -> u16
-    ensures { λ r. ⌜ r ≡ Spec.averaged ((termsOf configuration) .s0) standby discharge ⌝ }
+pub fn averaged(settings: Settings, standby: u16, discharge: u16) -> u16
+    ensures { λ r. ⌜ r ≡ Spec.averaged ((termsOf settings) .s0) standby discharge ⌝ }
 {
     if discharge == 0 {
         return standby;
     }
-    if 2 * s0(configuration) < discharge {
+    if 2 * s0(settings) < discharge {
         return standby;
     }
     (15 * (standby as u32) / 16 + discharge as u32) as u16
 }
 
 // What 14 asks of it.
-pub fn standby_accepted(configuration: Configuration, standby: u16) -> bool
-    ensures { λ r. ⌜ r ≡ Spec.standbyAccepted ((termsOf configuration) .s0) standby ⌝ }
+pub fn standby_accepted(settings: Settings, standby: u16) -> bool
+    ensures { λ r. ⌜ r ≡ Spec.standbyAccepted ((termsOf settings) .s0) standby ⌝ }
 {
-    standby <= 32 * s0(configuration)
+    standby <= 32 * s0(settings)
 }
 
 // What the register shows, units.

@@ -2,6 +2,7 @@
 use mathlib.Core.Path.{refl}
 use Rattle.charge.specs.Charge.{chargeAccepted, openedCharge}
 use Rattle.configuration.specs.Configuration.{openedMode}
+use Rattle.configuration.specs.Settings.{settingsAccepted}
 use Rattle.counters.specs.Counters.{countersAccepted, openedCounters}
 use Rattle.counters.specs.Cycles.{cyclesAccepted, noCycles}
 use Rattle.flags.specs.Byte.{flagsFit, flagsOf}
@@ -19,7 +20,7 @@ use Rattle.examples.proofs.proved_accepted.Statement.{statement}
 use Rattle.examples.proofs.proved_accepted.Tie as tie
 
 returns : tie.Need-returns
-unfolding chargeAccepted openedCharge openedMode countersAccepted openedCounters cyclesAccepted noCycles flagsFit flagsOf currentOf accepted
+unfolding chargeAccepted openedCharge openedMode countersAccepted openedCounters cyclesAccepted noCycles flagsFit flagsOf currentOf settingsAccepted accepted
     openAnswer openRefusal opened runAccepted openedHost loadAnswer acceptedAnswer answerIn formFits loaded loadedCharge loadedCounters loadedHost
     loadedSample rejectedAnswer zeroOrWithin currentAccepted noSample sampleAccepted standbyAccepted
 returns c =

@@ -6,6 +6,7 @@ use Rattle.charge.specs.Rest.{rested, restedOnce}
 use Rattle.command.specs.Command.{decide, decide56, decideA9, highestCommandBit, isReset}
 use Rattle.compensation.specs.Compensation.{adcgn, dcmp, dt, minutes, offsetTerm, rateTerm}
 use Rattle.configuration.specs.Configuration.{dcompTaken, openedMode}
+use Rattle.configuration.specs.Settings.{settingsAccepted}
 use Rattle.counters.specs.Counters.{countersAccepted, countersMoved, countersObeyed, countersRested, openedCounters}
 use Rattle.counters.specs.Cycles.{cyclesAccepted, cyclesMoved, cyctAfter, drainWith, noCycles}
 use Rattle.flags.specs.Flags.{atTaught, clearedIf, flagsObeyed}
@@ -36,7 +37,7 @@ use Rattle.examples.proofs.proved_cycles.Tie as tie
 returns : tie.Need-returns
 unfolding chargeAccepted emptied filled heldMoved leaked moved openedCharge runMoved withoutRun chargeObeyed writtenLmd writtenNac rested
     restedOnce decide decide56 decideA9 highestCommandBit isReset openedMode countersMoved countersObeyed countersRested openedCounters
-    clearedIf flagsObeyed accepted restAnswer storedAt windowAnswer writeAnswer writeRefusal
+    clearedIf flagsObeyed settingsAccepted accepted restAnswer storedAt windowAnswer writeAnswer writeRefusal
     written decided obeyed openAnswer openRefusal opened rest reachedIn summed window band leak leakRate reached weight drained runAccepted
     unlessPassed commanded commandsCleared fullIf hostObeyed initCleared openedHost stored endingOf isFull chargeEnded
     chargeReached filledIf flagsEnded reachedBy charge counted discharge zeroOrWithin between currentInRange valueBetween currentAccepted noSample

@@ -4,6 +4,7 @@ use Rattle.charge.specs.Charge.{chargeAccepted, emptied, filled, heldMoved, lea
 use Rattle.command.specs.Command.{decide, decideA9, highestCommandBit}
 use Rattle.compensation.specs.Compensation.{adcgn, dcmp, dt, minutes, offsetTerm, rateTerm}
 use Rattle.configuration.specs.Configuration.{dcompTaken, openedMode}
+use Rattle.configuration.specs.Settings.{settingsAccepted}
 use Rattle.counters.specs.Counters.{countersAccepted, countersMoved, openedCounters}
 use Rattle.counters.specs.Cycles.{cyclesAccepted, cyclesMoved, cyctAfter, drainWith, noCycles}
 use Rattle.flags.specs.Byte.{flagsByte}
@@ -31,7 +32,7 @@ use Rattle.examples.proofs.proved_examples.Tie as tie
 
 returns : tie.Need-returns
 unfolding chargeAccepted emptied filled heldMoved leaked moved openedCharge runMoved taught withoutRun decide decideA9 highestCommandBit
-    dcmp dt minutes offsetTerm rateTerm dcompTaken openedMode flagsByte atEdv1 atEdvf atTaught clearedIf accepted windowAnswer openAnswer
+    dcmp dt minutes offsetTerm rateTerm dcompTaken openedMode flagsByte atEdv1 atEdvf atTaught clearedIf settingsAccepted accepted windowAnswer openAnswer
     openRefusal opened reachedIn summed window band leak leakRate reached weight learned drained runAccepted unlessPassed fullIf openedHost
     endingOf mayTeach isFull chargeEnded chargeReached filledIf flagsEnded reachedBy tte cac reduction rsoc charge counted discharge
     zeroOrWithin between currentInRange valueBetween currentAccepted noSample sampleAccepted averaged standbyAccepted

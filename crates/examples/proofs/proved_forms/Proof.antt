@@ -2,6 +2,7 @@
 use mathlib.Core.Path.{refl}
 use Rattle.charge.specs.Charge.{chargeAccepted, openedCharge}
 use Rattle.configuration.specs.Configuration.{openedMode}
+use Rattle.configuration.specs.Settings.{settingsAccepted}
 use Rattle.counters.specs.Counters.{countersAccepted, openedCounters}
 use Rattle.counters.specs.Cycles.{cyclesAccepted, noCycles}
 use Rattle.flags.specs.Byte.{flagsByte, flagsFit, flagsOf}
@@ -22,7 +23,7 @@ use Rattle.examples.proofs.proved_forms.Statement.{statement}
 use Rattle.examples.proofs.proved_forms.Tie as tie
 
 returns : tie.Need-returns
-unfolding chargeAccepted openedCharge openedMode flagsByte flagsFit flagsOf accepted opened runAccepted openedHost zeroOrWithin currentAccepted
+unfolding chargeAccepted openedCharge openedMode flagsByte flagsFit flagsOf settingsAccepted accepted opened runAccepted openedHost zeroOrWithin currentAccepted
     noSample sampleAccepted loadAnswer acceptedAnswer answerIn formFits loaded loadedCharge loadedCounters loadedHost loadedSample rejectedAnswer fieldBytes
     laidOut savedBytes currentOf signedPair standbyAccepted openedCounters
     countersAccepted cyclesAccepted noCycles lookUp register rows

@@ -4,6 +4,7 @@ use Rattle.charge.specs.Charge.{chargeAccepted, emptied, filled, heldMoved, lea
 use Rattle.charge.specs.Obeyed.{chargeObeyed, writtenLmd, writtenNac}
 use Rattle.command.specs.Command.{commandOf, decide, decide56, decideA9, highestCommandBit, isReset}
 use Rattle.configuration.specs.Configuration.{openedMode}
+use Rattle.configuration.specs.Settings.{settingsAccepted}
 use Rattle.counters.specs.Counters.{countersAccepted, countersMoved, countersObeyed, openedCounters}
 use Rattle.counters.specs.Cycles.{cyclesAccepted, cyclesMoved, cyctAfter, drainWith, noCycles}
 use Rattle.flags.specs.Flags.{clearedIf, flagsObeyed}
@@ -34,7 +35,7 @@ use Rattle.examples.proofs.proved_previews.Tie as tie
 
 returns : tie.Need-returns
 unfolding chargeAccepted emptied filled heldMoved leaked moved openedCharge runMoved withoutRun chargeObeyed writtenNac decide decideA9
-    highestCommandBit isReset openedMode clearedIf flagsObeyed accepted storedAt windowAnswer writeAnswer writeRefusal written decided
+    highestCommandBit isReset openedMode clearedIf flagsObeyed settingsAccepted accepted storedAt windowAnswer writeAnswer writeRefusal written decided
     obeyed openAnswer openRefusal opened reachedIn summed window band leak leakRate reached weight drained runAccepted unlessPassed
     commanded commandsCleared fullIf hostObeyed initCleared openedHost stored endingOf isFull chargeEnded chargeReached filledIf flagsEnded
     reachedBy charge counted discharge zeroOrWithin between currentInRange valueBetween currentAccepted noSample sampleAccepted sampleReset

@@ -5,6 +5,7 @@ use Rattle.charge.specs.Obeyed.{chargeObeyed}
 use Rattle.charge.specs.Rest.{rested, restedOnce}
 use Rattle.command.specs.Command.{decide, decideA9, highestCommandBit, isReset}
 use Rattle.configuration.specs.Configuration.{openedMode}
+use Rattle.configuration.specs.Settings.{settingsAccepted}
 use Rattle.counters.specs.Counters.{countersAccepted, countersObeyed, countersRested, openedCounters}
 use Rattle.counters.specs.Cycles.{cyclesAccepted, noCycles}
 use Rattle.flags.specs.Flags.{flagsObeyed}
@@ -26,7 +27,7 @@ use Rattle.examples.proofs.proved_rests.Tie as tie
 
 returns : tie.Need-returns
 unfolding chargeAccepted filled leaked openedCharge chargeObeyed rested restedOnce decide decideA9 highestCommandBit isReset openedMode flagsObeyed
-    accepted restAnswer storedAt writeAnswer writeRefusal written decided obeyed openAnswer openRefusal opened rest band leak leakRate reached weight
+    settingsAccepted accepted restAnswer storedAt writeAnswer writeRefusal written decided obeyed openAnswer openRefusal opened rest band leak leakRate reached weight
     stepWindows drained runAccepted unlessPassed commanded commandsCleared hostObeyed initCleared openedHost stored zeroOrWithin between valueBetween
     currentAccepted noSample sampleAccepted sampleReset sampleRested standbyAccepted standbyReset
     countersAccepted countersObeyed countersRested openedCounters cyclesAccepted noCycles

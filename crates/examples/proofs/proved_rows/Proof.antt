@@ -4,6 +4,7 @@ use Rattle.charge.specs.Charge.{chargeAccepted, emptied, filled, heldMoved, lea
 use Rattle.command.specs.Command.{decide, decide56, decideA9, highestCommandBit}
 use Rattle.compensation.specs.Compensation.{adcgn, dcmp, dt, minutes, offsetTerm, rateTerm}
 use Rattle.configuration.specs.Configuration.{dcompTaken, openedMode}
+use Rattle.configuration.specs.Settings.{settingsAccepted}
 use Rattle.counters.specs.Counters.{countersAccepted, countersMoved, countersObeyed, openedCounters}
 use Rattle.counters.specs.Cycles.{cyclesAccepted, cyclesMoved, cyctAfter, drainWith, noCycles}
 use Rattle.flags.specs.Byte.{flagsByte}
@@ -31,7 +32,7 @@ use Rattle.examples.proofs.proved_rows.Tie as tie
 
 returns : tie.Need-returns
 unfolding chargeAccepted emptied filled heldMoved leaked moved openedCharge runMoved taught withoutRun decide decide56 decideA9
-    highestCommandBit dcmp dt minutes offsetTerm rateTerm dcompTaken openedMode flagsByte atEdv1 atEdvf atTaught clearedIf accepted storedAt
+    highestCommandBit dcmp dt minutes offsetTerm rateTerm dcompTaken openedMode flagsByte atEdv1 atEdvf atTaught clearedIf settingsAccepted accepted storedAt
     windowAnswer writeAnswer writeRefusal written openAnswer openRefusal opened reachedIn summed window band leak leakRate reached weight
     learned drained runAccepted unlessPassed commandsCleared fullIf initCleared openedHost stored endingOf mayTeach isFull chargeEnded
     chargeReached filledIf flagsEnded reachedBy artte stte tte ttf cac fcac reduction charge counted discharge zeroOrWithin between

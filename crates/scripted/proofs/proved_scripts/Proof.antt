@@ -17,6 +17,7 @@ use Rattle.command.specs.Command.{commandOf, decide, decide56, decideA9, highes
 use Rattle.compensation.specs.Compensation.{adcgn, dcmp, dt, minutes, offsetTerm, rateTerm}
 use Rattle.compensation.specs.Unaged.{dcmpUnaged}
 use Rattle.configuration.specs.Configuration.{dcompTaken, openedMode}
+use Rattle.configuration.specs.Settings.{settingsAccepted}
 use Rattle.counters.specs.Counters.{countersAccepted, countersMoved, countersObeyed, countersRested, openedCounters}
 use Rattle.counters.specs.Cycles.{cyclesAccepted, cyclesMoved, cyctAfter, drainWith, noCycles}
 use Rattle.drive.specs.Drive.{bytesAfter, calledBytes, calledNumber}
@@ -43,7 +44,7 @@ use Rattle.history.specs.Account.{afterEmptyStop, afterFull, afterRest, afterRe
 use Rattle.history.specs.After.{after, gaugeAfter, numberOf}
 use Rattle.history.specs.Claim.{begun}
 use Rattle.history.specs.Drain.{gains, unlessAbove}
-use Rattle.history.specs.History.{afterCall, afterCalls, afterCommand, afterKey, afterWork, afterWrite, hostAfter, openedHistory}
+use Rattle.history.specs.History.{afterCall, afterCalls, afterCommand, afterKey, afterWork, afterWrite, hostAfter, startedHistory}
 use Rattle.history.specs.Refused.{refusalOf}
 use Rattle.history.specs.Sums.{chargeOf}
 use Rattle.history.specs.Tests.{countedCurrent, qualifies, reachesE1, reachesEdvf, reachesFull, stopsEmpty}
@@ -89,12 +90,12 @@ unfolding endedAt Feed.fed fedAt isEnded lastOutput lastOutputAt afterFirst fedF
     restedOnce leakedAtOnce commandOf decide decide56 decideA9 highestCommandBit isReset adcgn dcmp dt minutes offsetTerm rateTerm dcmpUnaged
     dcompTaken openedMode countersAccepted countersMoved countersObeyed countersRested openedCounters cyclesAccepted cyclesMoved cyctAfter drainWith
     noCycles bytesAfter calledBytes calledNumber bytesAfterSteps callsOf stepBytes distanceAfter distanceFrom estimateAfter estimateRefusal
-    estimated flagsByte flagsFit flagsOf atEdv1 atEdvf atTaught clearedIf flagsObeyed laidOut inNewest widened currentOf signedPair accepted
+    estimated flagsByte flagsFit flagsOf atEdv1 atEdvf atTaught clearedIf flagsObeyed laidOut inNewest widened currentOf signedPair settingsAccepted accepted
     keyAnswer restAnswer storedAt windowAnswer writeAnswer writeRefusal written decided obeyed openAnswer openRefusal opened rest reachedIn summed
     window band leak leakRate reached weight learned restLeak drained runAccepted unlessPassed callBytes callNumber convertBytes convertNumber
     lookLeaves lookNumber openBytes openNumber hostPlace keptBytes keptNumber afterEmptyStop afterFull afterRest afterRestWindow afterRun afterSums
     afterVoltage afterWindow leakNow after gaugeAfter numberOf begun gains unlessAbove afterCall afterCalls afterCommand afterKey afterWork
-    afterWrite hostAfter openedHistory refusalOf chargeOf countedCurrent qualifies reachesE1 reachesEdvf reachesFull stopsEmpty commanded
+    afterWrite hostAfter startedHistory refusalOf chargeOf countedCurrent qualifies reachesE1 reachesEdvf reachesFull stopsEmpty commanded
     commandsCleared fullIf hostObeyed initCleared openedHost stored decimal decimalWithin joined line three words allDigits number ranged unsigned
     valueFrom placeAfter putAt Reading.fed goesOn readAs spaced linesOf digitFed firstFed grown wordFed wordNumber carriedStandby heldFits
     loadAnswer acceptedAnswer answerIn decodedGauge formFits loaded loadedCharge loadedCounters loadedHost loadedSample ofLength rejectedAnswer rule

@@ -14,7 +14,7 @@ byte-requires c κs = search needs
 returns : tie.Need-returns
 unfolding dcompTaken
 returns c =
-    let h : pkcfg (c .before .before .args .configuration) / 2 % 2 ≡ 1 = omega arith in
+    let h : pkcfg (c .before .before .args .settings) / 2 % 2 ≡ 1 = omega arith in
     simp (eq-eqb _ _ h)
 
 byte-requires-2 : tie.Need-byte-requires-2
@@ -23,7 +23,7 @@ byte-requires-2 c κs = search needs
 returns-2 : tie.Need-returns-2
 unfolding dcompTaken
 returns-2 c =
-    let h : pkcfg (c .before .before .before .args .configuration) / 2 % 2 ≡ 1 → ⊥ = λ e. omega arith in
+    let h : pkcfg (c .before .before .before .args .settings) / 2 % 2 ≡ 1 → ⊥ = λ e. omega arith in
     simp (ne-eqb _ _ h, c .byte2 .ensures)
 
 pub dcomp-taken-spec : {M : Type 1} → statement M

@@ -22,7 +22,7 @@ add-result-2 c = search needs
 
 returns : tie.Need-returns
 returns c =
-    let a = c .before .args .configuration in
+    let a = c .before .args .settings in
     let h : pkcfg a < 256 = omega arith in
     ap (λ (n : ℕ). n / 128 * 128 + 64 + 4) (c .byte .ensures) ∙ opened-mode-is a h
 

@@ -8,6 +8,9 @@ use Rattle.load.proofs.load.loaded_gauge.Tie as tie
 ten-at-requires : tie.Need-ten-at-requires
 ten-at-requires c κs = search needs
 
+opened-requires : tie.Need-opened-requires
+opened-requires c κs = search needs
+
 loaded-charge-requires : tie.Need-loaded-charge-requires
 loaded-charge-requires c κs = search needs
 
@@ -41,7 +44,8 @@ returns c =
     let p4 = p3 .before in
     let p5 = p4 .before in
     let p6 = p5 .before in
-    gauge-is (now (p6 .before .before .args .bytes)) (p6 .ten-at .ensures) (p5 .loaded-charge .ensures) (p4 .loaded-sample .ensures) (p3 .two-at .ensures)
+    let p7 = p6 .before in
+    gauge-is (now (p7 .before .before .args .bytes)) (p7 .ten-at .ensures) (p6 .opened .ensures) (p5 .loaded-charge .ensures) (p4 .loaded-sample .ensures) (p3 .two-at .ensures)
     (p2 .byte-at .ensures) (p1 .flags-of .ensures) (p0 .loaded-host .ensures) (c .loaded-counters .ensures)
 
 pub loaded-gauge-spec : {M : Type 1} → statement M
@@ -49,6 +53,7 @@ loaded-gauge-spec =
     tie.close
     (tie.spec
     ten-at-requires
+    opened-requires
     loaded-charge-requires
     loaded-sample-requires
     two-at-requires

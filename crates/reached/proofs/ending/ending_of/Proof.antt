@@ -20,8 +20,8 @@ returns-2 : tie.Need-returns-2
 unfolding endingOf
 returns-2 c =
     let a = c .before .before .before .args in
-    let k : e1 (a .configuration) < a .voltage = omega arith in
-    let h : edvf (a .configuration) < a .voltage = omega arith in
+    let k : e1 (a .settings) < a .voltage = omega arith in
+    let h : edvf (a .settings) < a .voltage = omega arith in
     simp (ne-eqb _ _ (c .before .before .if1 .left), lt-leb _ _ h, lt-leb _ _ k)
 
 edvf-requires : tie.Need-edvf-requires
@@ -32,7 +32,7 @@ unfolding endingOf
 returns-3 c =
     let p = c .before .before .before .before in
     let a = p .before .args in
-    let h : a .voltage ≤ edvf (a .configuration) = omega arith in
+    let h : a .voltage ≤ edvf (a .settings) = omega arith in
     simp (ne-eqb _ _ (p .if1 .left), le-leb _ _ h)
 
 returns-4 : tie.Need-returns-4
@@ -40,8 +40,8 @@ unfolding endingOf
 returns-4 c =
     let p = c .before .before .before .before .before in
     let a = p .before .args in
-    let h : edvf (a .configuration) < a .voltage = omega arith in
-    let k : a .voltage ≤ e1 (a .configuration) = omega arith in
+    let h : edvf (a .settings) < a .voltage = omega arith in
+    let k : a .voltage ≤ e1 (a .settings) = omega arith in
     simp (ne-eqb _ _ (p .if1 .left), lt-leb _ _ h, le-leb _ _ k, not-true (a .vdq) (c .if4 .taken))
 
 may-teach-requires : tie.Need-may-teach-requires
@@ -53,8 +53,8 @@ returns-5 c =
     let q = c .before .before in
     let p = q .before .before .before .before .before in
     let a = p .before .args in
-    let h : edvf (a .configuration) < a .voltage = omega arith in
-    let k : a .voltage ≤ e1 (a .configuration) = omega arith in
+    let h : edvf (a .settings) < a .voltage = omega arith in
+    let k : a .voltage ≤ e1 (a .settings) = omega arith in
     simp (ne-eqb _ _ (p .if1 .left), lt-leb _ _ h, le-leb _ _ k, not-false (a .vdq) (q .if4 .left), sym (c .before .may-teach .ensures) ∙ c .if5 .taken)
 
 returns-6 : tie.Need-returns-6
@@ -63,8 +63,8 @@ returns-6 c =
     let q = c .before .before in
     let p = q .before .before .before .before .before in
     let a = p .before .args in
-    let h : edvf (a .configuration) < a .voltage = omega arith in
-    let k : a .voltage ≤ e1 (a .configuration) = omega arith in
+    let h : edvf (a .settings) < a .voltage = omega arith in
+    let k : a .voltage ≤ e1 (a .settings) = omega arith in
     simp (ne-eqb _ _ (p .if1 .left), lt-leb _ _ h, le-leb _ _ k, not-false (a .vdq) (q .if4 .left), sym (c .before .may-teach .ensures) ∙ c .if5 .left)
 
 pub ending-of-spec : {M : Type 1} → statement M

@@ -17,7 +17,7 @@ returns : tie.Need-returns
 unfolding mayTeach
 returns c =
     let a = c .before .before .args in
-    let h : a .temperature < coldThreshold (a .configuration) = omega arith in
+    let h : a .temperature < coldThreshold (a .settings) = omega arith in
     simp (lt-leb _ _ h)
 
 s0-requires : tie.Need-s0-requires
@@ -33,7 +33,7 @@ returns-2 : tie.Need-returns-2
 unfolding mayTeach
 returns-2 c =
     let a = c .before .before .before .args in
-    let h : coldThreshold (a .configuration) ≤ a .temperature = omega arith in
+    let h : coldThreshold (a .settings) ≤ a .temperature = omega arith in
     simp (le-leb _ _ h) (ap (λ (n : ℕ). ltb (2 * n) (a .discharge)) (c .s0 .ensures .0))
 
 pub may-teach-spec : {M : Type 1} → statement M

@@ -39,7 +39,7 @@ returns-3 c =
     let p = c .before .before .before .before .before in
     let a = p .before .before .args in
     let h : a .held < grainsOfCounts (a .lmd) = omega arith in
-    let k : 2 * taper (a .configuration) < a .current .magnitude = omega arith in
+    let k : 2 * taper (a .settings) < a .current .magnitude = omega arith in
     simp (not-false (a .current .charging) (p .if1 .left), lt-leb _ _ h, lt-leb _ _ k)
 
 returns-4 : tie.Need-returns-4
@@ -48,7 +48,7 @@ returns-4 c =
     let p = c .before .before .before .before .before in
     let a = p .before .before .args in
     let h : a .held < grainsOfCounts (a .lmd) = omega arith in
-    let k : a .current .magnitude ≤ 2 * taper (a .configuration) = omega arith in
+    let k : a .current .magnitude ≤ 2 * taper (a .settings) = omega arith in
     simp (not-false (a .current .charging) (p .if1 .left), lt-leb _ _ h, le-leb _ _ k)
 
 pub is-full-spec : {M : Type 1} → statement M

@@ -6,7 +6,7 @@ use Rattle.registers.proofs.WholeLaws.{whole-stored}
 use Rattle.registers.proofs.whole.whole_map.Statement.{statement}
 use Rattle.registers.proofs.whole.whole_map.Tie as tie
 
-ten : (s : tie.Start) → length (s .args .gauge .configuration) ≡ 10
+ten : (s : tie.Start) → length (s .args .gauge .settings .bytes) ≡ 10
 ten s = search needs
 
 slice-aggregate-put-configuration : tie.Need-slice-aggregate-put-configuration
@@ -50,7 +50,7 @@ returns c =
     let cedv = cyct .before .before in
     let e1 = cedv .before in
     let put = e1 .before .before .before in
-    let s = put .before .before .before .before in
+    let s = put .before .before .before .before .before in
     let p = put .put-configuration in
     whole-stored (s .args .gauge) (p .last .1 .0) (ten s) (p .ensures .1) (p .ensures .0) (e1 .e1 .ensures) (cedv .put-pair .ensures) (cyct .put-pair2 .ensures)
     (host .put-host .ensures) (capacities .put-capacities .ensures) (c .put-currents .ensures)

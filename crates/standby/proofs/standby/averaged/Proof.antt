@@ -23,7 +23,7 @@ unfolding averaged
 returns-2 c =
     let i = c .before .before in
     let a = i .before .args in
-    let h : 2 * s0 (a .configuration) < a .discharge = omega arith in
+    let h : 2 * s0 (a .settings) < a .discharge = omega arith in
     simp (ne-eqb _ _ (i .if1 .left), lt-leb _ _ h)
 
 mul-result : tie.Need-mul-result
@@ -40,7 +40,7 @@ unfolding averaged
 returns-3 c =
     let i = c .before .before in
     let a = i .before .args in
-    let h : a .discharge ≤ 2 * s0 (a .configuration) = omega arith in
+    let h : a .discharge ≤ 2 * s0 (a .settings) = omega arith in
     simp (ne-eqb _ _ (i .if1 .left), le-leb _ _ h)
 
 pub averaged-spec : {M : Type 1} → statement M

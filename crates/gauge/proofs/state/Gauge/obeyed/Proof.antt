@@ -41,7 +41,7 @@ returns c =
     let a = r .before .before .args in
     let g = a .self in
     gauge-is (q .before .obeyed .ensures) (q .reset-if .ensures ∙ ap (λ (t : Bool). sampleReset t (g .sample)) (r .is-reset .ensures))
-    (p .reset-if2 .ensures ∙ ap (λ (t : Bool). standbyReset t (s0 (g .configuration)) (g .standby)) (r .is-reset .ensures))
+    (p .reset-if2 .ensures ∙ ap (λ (t : Bool). standbyReset t (s0 (g .settings)) (g .standby)) (r .is-reset .ensures))
     (h .before .obeyed2 .ensures) (h .obeyed3 .ensures) (c .obeyed4 .ensures)
 
 pub obeyed-spec : {M : Type 1} → statement M

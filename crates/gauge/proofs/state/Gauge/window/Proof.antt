@@ -98,13 +98,13 @@ returns-5 c =
     let o = p .before in
     let a = o .args in
     let g = a .self in
-    let i : w3 .counted .result ≡ counted (dmf (g .configuration)) (current (a .a)) =
+    let i : w3 .counted .result ≡ counted (dmf (g .settings)) (current (a .a)) =
     w3 .counted .ensures ∙ ap (λ (d : ℕ). counted d (w5 .current .result)) (w4 .dmf .ensures .0)
-    ∙ ap (counted (dmf (g .configuration))) (w5 .current .ensures ∙ ap current (narrow _ (o .fits .a))) in
+    ∙ ap (counted (dmf (g .settings))) (w5 .current .ensures ∙ ap current (narrow _ (o .fits .a))) in
     let e = c .stepped .ensures ∙ ap (λ (x : Current). window x (w2 .voltage .result) (w1 .temperature .result) g) i
-    ∙ ap (λ (x : ℕ). window (counted (dmf (g .configuration)) (current (a .a))) x (w1 .temperature .result) g)
+    ∙ ap (λ (x : ℕ). window (counted (dmf (g .settings)) (current (a .a))) x (w1 .temperature .result) g)
     (w2 .voltage .ensures ∙ ap voltage (narrow _ (o .fits .v)))
-    ∙ ap (λ (x : ℕ). window (counted (dmf (g .configuration)) (current (a .a))) (voltage (a .v)) x g)
+    ∙ ap (λ (x : ℕ). window (counted (dmf (g .settings)) (current (a .a))) (voltage (a .v)) x g)
     (w1 .temperature .ensures ∙ ap temperature (narrow _ (o .fits .t))) in
     window-done g (a .a) (a .v) (a .t) (sym (p .accepted .ensures) ∙ not-false _ (q .before .if1 .left))
     (sym (q .current-in-range .ensures ∙ ap currentInRange (narrow _ (o .fits .a))) ∙ not-false _ (r .before .if2 .left))
