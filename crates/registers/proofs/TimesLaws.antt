@@ -1,14 +1,14 @@
 -- Laws of the times: what is shown, put together from the calls' answers. Assumes nothing.
 use mathlib.Core.Path.{_≡_, ap, _∙_}
 use Prim.Native.Nat.{ℕ, _-_, _*_}
-use Rattle.compensation.specs.Compensation.{compensated, minutes}
+use Rattle.compensation.specs.Compensation.{minutes}
 use Rattle.gauge.specs.declared.state.Gauge.{Gauge}
-use Rattle.sample.specs.Current.{charge, discharge}
+use Rattle.sample.specs.Current.{charge}
 use Rattle.registers.specs.Times.{artte, stte, tte, ttf}
-use Rattle.registers.specs.Values.{agedDcmp, cac, nac, si}
+use Rattle.registers.specs.Values.{cac, nac, presentDischarge, si, usableAt}
 
 module _ (g : Gauge) where
-  pub tte-is : {n i r : ℕ} → n ≡ cac g → i ≡ discharge (g .sample .current) → r ≡ minutes (60 * n) i → r ≡ tte g
+  pub tte-is : {n i r : ℕ} → n ≡ cac g → i ≡ presentDischarge g → r ≡ minutes (60 * n) i → r ≡ tte g
   unfolding tte
   tte-is {i = i} p q e = e ∙ ap (λ (k : ℕ). minutes (60 * k) i) p ∙ ap (minutes (60 * cac g)) q
 
@@ -23,11 +23,6 @@ module _ (g : Gauge) where
   unfolding stte
   stte-is {i = i} p q e = e ∙ ap (λ (k : ℕ). minutes (60 * k) i) p ∙ ap (minutes (60 * nac g)) q
 
-  pub artte-is : {d n i r : ℕ} → d ≡ agedDcmp g (g .host .ar) → n ≡ nac g → i ≡ compensated n d
-      → r ≡ minutes (60 * i) (g .host .ar) → r ≡ artte g
+  pub artte-is : {n r : ℕ} → n ≡ usableAt g (g .host .ar) → r ≡ minutes (60 * n) (g .host .ar) → r ≡ artte g
   unfolding artte
-  artte-is {d = d} p q s e =
-      e
-      ∙ ap (λ (k : ℕ). minutes (60 * k) (g .host .ar)) s
-      ∙ ap (λ (k : ℕ). minutes (60 * compensated k d) (g .host .ar)) q
-      ∙ ap (λ (k : ℕ). minutes (60 * compensated (nac g) k) (g .host .ar)) p
+  artte-is p e = e ∙ ap (λ (k : ℕ). minutes (60 * k) (g .host .ar)) p

@@ -12,8 +12,7 @@ use Rattle.gauge.specs.Accepted.{accepted}
 use Rattle.gauge.specs.declared.state.Gauge.{Gauge}
 use Rattle.gauge.proofs.AcceptedLaws as Accepted
 use Rattle.gauge.proofs.AcceptedLaws.{sound}
-use Rattle.sample.specs.Current.{discharge}
-use Rattle.registers.specs.Values.{agedDcmp, cac, fcac, nac, reduction}
+use Rattle.registers.specs.Values.{agedDcmp, cac, fcac, nac, presentDischarge, reduction, usableAt}
 
 -- ---- NAC and RSOC
 
@@ -33,13 +32,16 @@ percent-fits part whole h =
 -- ---- what is shown, from what the calls answer
 
 module _ (g : Gauge) where
-  pub reduction-is : {i r : ℕ} → i ≡ discharge (g .sample .current) → r ≡ agedDcmp g i → r ≡ reduction g
+  pub reduction-is : {i r : ℕ} → i ≡ presentDischarge g → r ≡ agedDcmp g i → r ≡ reduction g
   unfolding reduction
   reduction-is p e = e ∙ ap (agedDcmp g) p
 
-  pub cac-is : {n d r : ℕ} → n ≡ nac g → d ≡ reduction g → r ≡ compensated n d → r ≡ cac g
-  unfolding cac
-  cac-is {d = d} p q e = e ∙ ap (λ (k : ℕ). compensated k d) p ∙ ap (compensated (nac g)) q
+  pub usable-is : (i : ℕ) {n d r : ℕ} → d ≡ agedDcmp g i → n ≡ nac g → r ≡ compensated n d → r ≡ usableAt g i
+  unfolding usableAt
+  usable-is i {d = d} q p e = e ∙ ap (λ (k : ℕ). compensated k d) p ∙ ap (compensated (nac g)) q
+
+  pub cac-is : {i r : ℕ} → i ≡ presentDischarge g → r ≡ usableAt g i → r ≡ cac g
+  cac-is p e = e ∙ ap (usableAt g) p
 
   pub fcac-is : {d r : ℕ} → d ≡ reduction g → r ≡ compensated (g .charge .lmd) d → r ≡ fcac g
   unfolding fcac

@@ -23,14 +23,23 @@ rsoc g = 100 * nac g / g .charge .lmd
 abbrev pub agedDcmp : Gauge → ℕ → ℕ
 agedDcmp g i = dcmp (g .settings) i (g .sample .temperature) (g .counters .cycles .cyct)
 
--- "D = DCMP(IAV) if c < 0, else DCMP(0)": the discharge is IAV if c < 0, else 0
+-- the counts that are usable at a current I: "max(0, NAC − DCMP(I))"
+unfoldable pub usableAt : Gauge → ℕ → ℕ
+usableAt g i = compensated (nac g) (agedDcmp g i)
+
+-- IAV "if c < 0", else 0
+abbrev pub presentDischarge : Gauge → ℕ
+presentDischarge g = discharge (g .sample .current)
+
+-- "D = DCMP(IAV) if c < 0, else DCMP(0)"
 unfoldable pub reduction : Gauge → ℕ
-reduction g = agedDcmp g (discharge (g .sample .current))
+reduction g = agedDcmp g (presentDischarge g)
 
--- "CAC = max(0, NAC − D), FCAC = max(0, LMD − D)."
-unfoldable pub cac : Gauge → ℕ
-cac g = compensated (nac g) (reduction g)
+-- "CAC = max(0, NAC − D)": what is usable at IAV
+abbrev pub cac : Gauge → ℕ
+cac g = usableAt g (presentDischarge g)
 
+-- "FCAC = max(0, LMD − D)."
 unfoldable pub fcac : Gauge → ℕ
 fcac g = compensated (g .charge .lmd) (reduction g)
 

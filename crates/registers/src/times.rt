@@ -6,8 +6,7 @@ ghost use Rattle.registers.specs.Times as Spec;
 use crate::values::cac;
 use crate::values::nac;
 use crate::values::si;
-use compensation::compensation::compensated;
-use compensation::compensation::dcmp;
+use crate::values::usable_at;
 use compensation::compensation::minutes;
 use gauge::state::Gauge;
 
@@ -37,15 +36,5 @@ pub(crate) fn artte(gauge: Gauge) -> u16
     requires { ⌜ accepted gauge ≡ true ⌝ }
     ensures { λ r. ⌜ r ≡ Spec.artte gauge ⌝ }
 {
-    let settings = gauge.settings;
-    let reduction = dcmp(
-        settings,
-        gauge.host.ar,
-        gauge.sample.temperature,
-        gauge.counters.cycles.cyct,
-    );
-    minutes(
-        60 * compensated(nac(gauge), reduction) as u32,
-        gauge.host.ar,
-    )
+    minutes(60 * usable_at(gauge, gauge.host.ar) as u32, gauge.host.ar)
 }

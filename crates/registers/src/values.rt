@@ -24,6 +24,28 @@ pub(crate) fn rsoc(gauge: Gauge) -> u8
     (100 * nac(gauge) as u32 / gauge.charge.lmd as u32) as u8
 }
 
+// The counts that are usable at a current.
+pub(crate) fn usable_at(gauge: Gauge, current: u16) -> u16
+    requires { ⌜ accepted gauge ≡ true ⌝ }
+    ensures { λ r. ⌜ r ≡ Spec.usableAt gauge current ⌝ }
+{
+    let settings = gauge.settings;
+    let reduction = dcmp(
+        settings,
+        current,
+        gauge.sample.temperature,
+        gauge.counters.cycles.cyct,
+    );
+    compensated(nac(gauge), reduction)
+}
+
+pub(crate) fn cac(gauge: Gauge) -> u16
+    requires { ⌜ accepted gauge ≡ true ⌝ }
+    ensures { λ r. ⌜ r ≡ Spec.cac gauge ⌝ }
+{
+    usable_at(gauge, gauge.sample.current.discharge())
+}
+
 // D, the compensation at the last counted current.
 fn reduction(gauge: Gauge) -> u64
     ensures { λ r. ⌜ r ≡ Spec.reduction gauge ⌝ }
@@ -35,13 +57,6 @@ fn reduction(gauge: Gauge) -> u64
         gauge.sample.temperature,
         gauge.counters.cycles.cyct,
     )
-}
-
-pub(crate) fn cac(gauge: Gauge) -> u16
-    requires { ⌜ accepted gauge ≡ true ⌝ }
-    ensures { λ r. ⌜ r ≡ Spec.cac gauge ⌝ }
-{
-    compensated(nac(gauge), reduction(gauge))
 }
 
 pub(crate) fn fcac(gauge: Gauge) -> u16

@@ -25,7 +25,7 @@ use Rattle.reached.specs.Full.{isFull}
 use Rattle.reached.specs.Reached.{chargeEnded, chargeReached, filledIf, flagsEnded, reachedBy}
 use Rattle.registers.specs.Map.{lookUp, register, rows}
 use Rattle.registers.specs.Times.{artte, tte}
-use Rattle.registers.specs.Values.{cac, fcac, reduction}
+use Rattle.registers.specs.Values.{fcac, reduction, usableAt}
 use Rattle.sample.specs.Current.{charge, counted, discharge}
 use Rattle.sample.specs.Limits.{zeroOrWithin}
 use Rattle.sample.specs.Range.{between, currentInRange, valueBetween}
@@ -43,7 +43,7 @@ unfolding chargeAccepted emptied filled heldMoved leaked moved openedCharge runM
     chargeReached filledIf flagsEnded reachedBy charge counted discharge zeroOrWithin between currentInRange valueBetween currentAccepted noSample
     sampleAccepted sampleReset sampleRested averaged standbyAccepted standbyReset
     countersAccepted cyclesAccepted noCycles cyclesMoved cyctAfter drainWith
-    adcgn dcmp dt minutes offsetTerm rateTerm dcompTaken lookUp register rows artte tte cac fcac reduction learned mayTeach taught atTaught
+    adcgn dcmp dt minutes offsetTerm rateTerm dcompTaken lookUp register rows artte tte usableAt fcac reduction learned mayTeach taught atTaught
 returns c =
     record {
       drain-796 = refl;

@@ -21,7 +21,7 @@ use Rattle.reached.specs.Ending.{endingOf, mayTeach}
 use Rattle.reached.specs.Full.{isFull}
 use Rattle.reached.specs.Reached.{chargeEnded, chargeReached, filledIf, flagsEnded, reachedBy}
 use Rattle.registers.specs.Times.{tte}
-use Rattle.registers.specs.Values.{cac, reduction, rsoc}
+use Rattle.registers.specs.Values.{reduction, rsoc, usableAt}
 use Rattle.sample.specs.Current.{charge, counted, discharge}
 use Rattle.sample.specs.Limits.{zeroOrWithin}
 use Rattle.sample.specs.Range.{between, currentInRange, valueBetween}
@@ -34,7 +34,7 @@ returns : tie.Need-returns
 unfolding chargeAccepted emptied filled heldMoved leaked moved openedCharge runMoved taught withoutRun decide decideA9 highestCommandBit
     dcmp dt minutes offsetTerm rateTerm dcompTaken openedMode flagsByte atEdv1 atEdvf atTaught clearedIf settingsAccepted accepted windowAnswer openAnswer
     openRefusal opened reachedIn summed window band leak leakRate reached weight learned drained runAccepted unlessPassed fullIf openedHost
-    endingOf mayTeach isFull chargeEnded chargeReached filledIf flagsEnded reachedBy tte cac reduction rsoc charge counted discharge
+    endingOf mayTeach isFull chargeEnded chargeReached filledIf flagsEnded reachedBy tte usableAt reduction rsoc charge counted discharge
     zeroOrWithin between currentInRange valueBetween currentAccepted noSample sampleAccepted averaged standbyAccepted
     adcgn countersAccepted countersMoved openedCounters cyclesAccepted cyclesMoved cyctAfter drainWith noCycles
 returns c =

@@ -21,7 +21,7 @@ use Rattle.reached.specs.Ending.{endingOf, mayTeach}
 use Rattle.reached.specs.Full.{isFull}
 use Rattle.reached.specs.Reached.{chargeEnded, chargeReached, filledIf, flagsEnded, reachedBy}
 use Rattle.registers.specs.Times.{artte, stte, tte, ttf}
-use Rattle.registers.specs.Values.{cac, fcac, reduction}
+use Rattle.registers.specs.Values.{fcac, reduction, usableAt}
 use Rattle.sample.specs.Current.{charge, counted, discharge}
 use Rattle.sample.specs.Limits.{zeroOrWithin}
 use Rattle.sample.specs.Range.{between, currentInRange, valueBetween}
@@ -35,7 +35,7 @@ unfolding chargeAccepted emptied filled heldMoved leaked moved openedCharge runM
     highestCommandBit dcmp dt minutes offsetTerm rateTerm dcompTaken openedMode flagsByte atEdv1 atEdvf atTaught clearedIf settingsAccepted accepted storedAt
     windowAnswer writeAnswer writeRefusal written openAnswer openRefusal opened reachedIn summed window band leak leakRate reached weight
     learned drained runAccepted unlessPassed commandsCleared fullIf initCleared openedHost stored endingOf mayTeach isFull chargeEnded
-    chargeReached filledIf flagsEnded reachedBy artte stte tte ttf cac fcac reduction charge counted discharge zeroOrWithin between
+    chargeReached filledIf flagsEnded reachedBy artte stte tte ttf usableAt fcac reduction charge counted discharge zeroOrWithin between
     currentInRange valueBetween currentAccepted noSample sampleAccepted averaged shown standbyAccepted
     adcgn countersAccepted countersMoved countersObeyed openedCounters cyclesAccepted cyclesMoved cyctAfter drainWith noCycles
 returns c =

@@ -70,7 +70,7 @@ use Rattle.registers.specs.Map.{lookUp, register, registersFrom, rows}
 use Rattle.registers.specs.Reading as Reading′
 use Rattle.registers.specs.Reading.{placeRefusal, readRefusal}
 use Rattle.registers.specs.Times.{artte, stte, tte, ttf}
-use Rattle.registers.specs.Values.{cac, fcac, reduction, rsoc}
+use Rattle.registers.specs.Values.{fcac, reduction, rsoc, usableAt}
 use Rattle.registers.specs.Whole.{allAnswer}
 use Rattle.sample.specs.Current.{charge, counted, discharge}
 use Rattle.sample.specs.Limits.{zeroOrWithin}
@@ -100,7 +100,7 @@ unfolding endedAt Feed.fed fedAt isEnded lastOutput lastOutputAt afterFirst fedF
     valueFrom placeAfter putAt Reading.fed goesOn readAs spaced linesOf digitFed firstFed grown wordFed wordNumber carriedStandby heldFits
     loadAnswer acceptedAnswer answerIn decodedGauge formFits loaded loadedCharge loadedCounters loadedHost loadedSample ofLength rejectedAnswer rule
     inTable permille commandAfter previewRefusal Preview.replyAfter endingOf mayTeach isFull chargeEnded chargeReached filledIf flagsEnded reachedBy
-    lookUp register registersFrom rows placeRefusal readRefusal Reading′.replyAfter artte stte tte ttf cac fcac reduction rsoc allAnswer charge
+    lookUp register registersFrom rows placeRefusal readRefusal Reading′.replyAfter artte stte tte ttf usableAt fcac reduction rsoc allAnswer charge
     counted discharge zeroOrWithin between currentInRange valueBetween currentAccepted noSample sampleAccepted sampleReset sampleRested chargePut
     countersPut headed hostPut samplePut reloadedAnswer bufferAfter fieldBytes putAfter saveRefusal savedBytes averaged shown standbyAccepted
     standbyReset

@@ -4,14 +4,8 @@ use Rattle.registers.proofs.TimesLaws.{artte-is}
 use Rattle.registers.proofs.times.artte.Statement.{statement}
 use Rattle.registers.proofs.times.artte.Tie as tie
 
-dcmp-requires : tie.Need-dcmp-requires
-dcmp-requires c κs = tt
-
-nac-requires : tie.Need-nac-requires
-nac-requires c κs = c .before .before .pre
-
-compensated-requires : tie.Need-compensated-requires
-compensated-requires c κs = tt
+usable-at-requires : tie.Need-usable-at-requires
+usable-at-requires c κs = c .pre
 
 cast-minutes : tie.Need-cast-minutes
 cast-minutes c = search needs
@@ -25,18 +19,7 @@ minutes-requires c κs = tt
 returns : tie.Need-returns
 returns c =
     let p = c .before in
-    let q = p .before in
-    let r = q .before in
-    artte-is (r .before .before .args .gauge) (r .dcmp .ensures) (q .nac .ensures .0) (p .compensated .ensures) (c .minutes .ensures)
+    artte-is (p .before .args .gauge) (p .usable-at .ensures) (c .minutes .ensures)
 
 pub artte-spec : {M : Type 1} → statement M
-artte-spec =
-    tie.close
-    (tie.spec
-    dcmp-requires
-    nac-requires
-    compensated-requires
-    cast-minutes
-    mul-minutes
-    minutes-requires
-    returns)
+artte-spec = tie.close (tie.spec usable-at-requires cast-minutes mul-minutes minutes-requires returns)

@@ -1,22 +1,18 @@
--- NAC less D. Assumes nothing.
+-- What is usable at the discharge. Assumes nothing.
 use Rattle.registers.proofs.ValuesLaws.{cac-is}
 use Rattle.registers.proofs.values.cac.Statement.{statement}
 use Rattle.registers.proofs.values.cac.Tie as tie
 
-nac-requires : tie.Need-nac-requires
-nac-requires c κs = c .pre
+discharge-requires : tie.Need-discharge-requires
+discharge-requires c κs = tt
 
-reduction-requires : tie.Need-reduction-requires
-reduction-requires c κs = tt
-
-compensated-requires : tie.Need-compensated-requires
-compensated-requires c κs = tt
+usable-at-requires : tie.Need-usable-at-requires
+usable-at-requires c κs = c .before .pre
 
 returns : tie.Need-returns
 returns c =
     let p = c .before in
-    let q = p .before in
-    cac-is (q .before .args .gauge) (q .nac .ensures .0) (p .reduction .ensures) (c .compensated .ensures)
+    cac-is (p .before .args .gauge) (p .discharge .ensures) (c .usable-at .ensures)
 
 pub cac-spec : {M : Type 1} → statement M
-cac-spec = tie.close (tie.spec nac-requires reduction-requires compensated-requires returns)
+cac-spec = tie.close (tie.spec discharge-requires usable-at-requires returns)
