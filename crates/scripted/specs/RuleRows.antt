@@ -19,7 +19,7 @@ use Rattle.configuration.specs.BenchPack.{benchPack}
 use Rattle.configuration.specs.Configuration.{dcomp, dcompTaken, dmfsd, id3, ilmd, islc, pkcfg, sedv1, sedvf, taper, tcomp}
 use Rattle.flags.specs.Byte.{flagsFit}
 use Rattle.flags.specs.Flags.{atEdv1, atTaught, flagsObeyed}
-use Rattle.gauge.specs.Calls.{keyAnswer}
+use Rattle.gauge.specs.Calls.{keyAnswer, restAnswer, windowAnswer, writeAnswer}
 use Rattle.gauge.specs.declared.state.Gauge.{Gauge}
 use Rattle.grains.specs.Grains.{saturatingDifference, saturatingSum}
 use Rattle.grains.specs.Rest.{restLeak}
@@ -30,7 +30,7 @@ use Rattle.numbers.specs.Signed.{atLeastZero}
 use Rattle.permille.specs.Rule.{rule}
 use Rattle.permille.specs.Table.{entries, entryVoltage, permille}
 use Rattle.registers.specs.Map.{configurationPair, pairAt}
-use Rattle.registers.specs.Reading.{pairBytes}
+use Rattle.registers.specs.Reading.{pairBytes, readRefusal}
 use Rattle.registers.specs.Whole.{allAnswer, withPair}
 use Rattle.sample.specs.Current.{noCurrent}
 use Rattle.sample.specs.Range.{current, currentOf, temperature, voltage}
@@ -146,3 +146,8 @@ pub record RuleRows : Type 0 where
   pub key-11 : (keyAnswer (started (set (set (set everySet 37 0) 38 0) 39 0x01)) 0x56) .number ≡ 11
   pub key-9 : (keyAnswer (started noneSet) 0xA9) .number ≡ 9
   pub key-kept : savedBytes ((keyAnswer (started noneSet) 0xA9) .gauge) ≡ noneSet
+  -- of a gauge value: 14 before 3, 6, 7 and 12
+  pub window-first-14 : (windowAnswer refused (pos 28_012) (pos 2_599) (pos 1_011)) .number ≡ 14
+  pub rest-first-14 : (restAnswer refused 0 (pos 1_011)) .number ≡ 14
+  pub write-first-14 : (writeAnswer refused 0x04 0xA9) .number ≡ 14
+  pub read-first-14 : readRefusal refused 0x7F 2 7 8 ≡ 14

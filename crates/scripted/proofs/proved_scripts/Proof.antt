@@ -449,6 +449,10 @@ returns c =
         key-11 = refl;
         key-9 = refl;
         key-kept = refl;
+        window-first-14 = refl;
+        rest-first-14 = refl;
+        write-first-14 = refl;
+        read-first-14 = refl;
       };
       saved = record {
         save-14 = refl;
