@@ -2,9 +2,7 @@
 ghost use mathlib.Core.Path.{_≡_};
 ghost use Rattle.gauge.specs.Window as Spec;
 use crate::state::Gauge;
-use charge::charge::Charge;
-use configuration::configuration::sd;
-use grains::leak::leak_rate;
+use reached::charge_after::summed;
 use reached::ending::ending_of;
 use reached::full::is_full;
 use reached::reached::charge_ended;
@@ -15,21 +13,12 @@ use sample::sample::Sample;
 use standby::standby::averaged;
 
 impl Gauge {
-    // Steps 1 and 2: the leak, and the sum of the counted current.
-    fn summed(self, current: Current, temperature: u16) -> Charge
-        ensures { λ r. ⌜ r ≡ Spec.summed current temperature self ⌝ }
-    {
-        let settings = self.settings;
-        let rate = leak_rate(sd(settings), temperature);
-        self.charge.leaked(rate).moved(current)
-    }
-
     // What the window reaches is decided from the sum; then each part is moved by it.
     pub(crate) fn stepped(self, current: Current, voltage: u16, temperature: u16) -> Gauge
         ensures { λ r. ⌜ r ≡ Spec.window current voltage temperature self ⌝ }
     {
         let settings = self.settings;
-        let summed = self.summed(current, temperature);
+        let summed = summed(self.charge, settings, current, temperature);
         let full = is_full(settings, current, voltage, summed.held, summed.lmd);
         let ending = ending_of(
             settings,

@@ -20,11 +20,10 @@ use Rattle.counters.proofs.CountersKept.{accepted-drain}
 use Rattle.gauge.specs.Calls.{storedAt, written}
 use Rattle.gauge.specs.Obey.{decided, obeyed}
 use Rattle.gauge.specs.Rest.{rest}
-use Rattle.gauge.specs.Window.{reachedIn, summed, window}
+use Rattle.gauge.specs.Window.{window}
 use Rattle.gauge.specs.declared.state.Gauge.{Gauge}
 use Rattle.grains.specs.Leak.{leakRate}
 use Rattle.numbers.specs.Signed.{magnitude}
-use Rattle.reached.specs.Reached.{chargeReached, reachedBy}
 use Rattle.sample.specs.Current.{counted, noCurrent}
 use Rattle.sample.specs.Limits.{leastTemperature, leastVoltage, mostTemperature, mostVoltage}
 use Rattle.sample.specs.Range.{between, current, currentInRange, currentOf, temperature, temperatureInRange, valueBetween, voltage}
@@ -35,7 +34,7 @@ use Rattle.history.specs.History.{afterCommand, afterKey, afterWrite, ho
 use Rattle.history.specs.Kept.{History, withAccount, withCounts, withHost}
 use Rattle.history.specs.Tests.{countedCurrent}
 use Rattle.history.proofs.AnswerLaws.{InRange}
-use Rattle.reached.proofs.ChargeKept.{chargeAfter}
+use Rattle.reached.specs.ChargeAfter.{chargeAfter}
 use Rattle.history.proofs.CommandTracks.{HostTracks, full-host, host-decides, obeyed-host, command-tracks, stored-host}
 use Rattle.history.proofs.CountTracks.{CountTracks, command-counts, rest-counts, window-counts}
 use Rattle.history.proofs.RestTracks.{rest-tracks}
@@ -72,7 +71,7 @@ counted-is terms a e = rw e (go (leb (magnitude a) (terms .dmf)))
 module _ (g : Gauge) (x : History) (s : Standing g) (f : Beside g x) where
   window-charge : (a v t : ℤ) → InRange a v t
       → Tracks
-      (chargeAfter (termsOf (g .settings)) (leakRate (sd (g .settings)) (temperature t))
+      (chargeAfter (termsOf (g .settings))
       (counted (dmf (g .settings)) (current a)) (voltage v) (temperature t) (g .charge))
       (afterWindow (termsOf (x .settings)) (countedCurrent (termsOf (x .settings)) a) v t (x .account))
   window-charge a v t r =
@@ -87,7 +86,7 @@ module _ (g : Gauge) (x : History) (s : Standing g) (f : Beside g x) where
       ∙ ap (λ (w : ℤ). afterWindow (termsOf c) z w t (x .account)) (value-is leastVoltage mostVoltage v (r .voltage))
       ∙ ap (λ (w : ℤ). afterWindow (termsOf c) z (pos (voltage v)) w (x .account)) (value-is leastTemperature mostTemperature t (r .temperature)) in
       subst₂ Tracks
-      (ap (λ (j : Current). chargeAfter (termsOf c) (leakRate (sd c) (temperature t)) j (voltage v) (temperature t) (g .charge)) (sym i))
+      (ap (λ (j : Current). chargeAfter (termsOf c) j (voltage v) (temperature t) (g .charge)) (sym i))
       (sym e) k
 
   window-count : (a : ℤ) → currentInRange a ≡ true
@@ -108,7 +107,7 @@ module _ (g : Gauge) (x : History) (s : Standing g) (f : Beside g x) where
       → Beside (window (counted (dmf (g .settings)) (current a)) (voltage v) (temperature t) g)
       (withCounts (countsAfterWindow (x .account .learned) (countedCurrent (termsOf (x .settings)) a) (x .counts))
       (withAccount (afterWindow (termsOf (x .settings)) (countedCurrent (termsOf (x .settings)) a) v t (x .account)) x))
-  unfolding window summed reachedIn reachedBy chargeReached
+  unfolding window
   window-beside a v t r =
       record {
         settings = f .settings;

@@ -16,12 +16,11 @@ use Rattle.gauge.specs.Answer.{answered, unlessRejected}
 use Rattle.gauge.specs.Calls.{restAnswer, restRefusal, sampleRefusal, storedAt, windowAnswer, writeAnswer, writeRefusal, written}
 use Rattle.gauge.specs.Obey.{decided}
 use Rattle.gauge.specs.Rest.{rest}
-use Rattle.gauge.specs.Window.{reachedIn, summed, window}
+use Rattle.gauge.specs.Window.{window}
 use Rattle.gauge.specs.declared.state.Gauge.{Gauge}
 use Rattle.gauge.proofs.ObeyedKept.{decided-stands}
 use Rattle.gauge.proofs.Standing.{Standing, bounded, rate-low, standing, taken}
 use Rattle.grains.specs.Leak.{leakRate}
-use Rattle.reached.specs.Reached.{chargeReached, reachedBy}
 use Rattle.refusals.proofs.OrElseLaws.{not-rejected}
 use Rattle.sample.specs.Current.{counted, discharge}
 use Rattle.sample.specs.Limits.{restInRange}
@@ -42,11 +41,11 @@ use Rattle.standby.proofs.StandbyKept.{averaged-kept}
 module _ (g : Gauge) (s : Standing g) where
   window-stands : (a v t : ℤ) → InRange a v t
       → Standing (window (counted (dmf (g .settings)) (current a)) (voltage v) (temperature t) g)
-  unfolding window summed reachedIn reachedBy chargeReached
+  unfolding window
   window-stands a v t r =
       let c = g .settings in
       let i = counted (dmf c) (current a) in
-      let b = window-bounded (termsOf c) (leakRate (sd c) (temperature t)) i (voltage v) (temperature t) (g .charge) (bounded g s)
+      let b = window-bounded (termsOf c) i (voltage v) (temperature t) (g .charge) (bounded g s)
       (rate-low c (temperature t)) (counted-within (dmf c) a (r .current)) in
       record {
         settings = s .settings;

@@ -17,15 +17,16 @@ use Rattle.grains.specs.Grains.{grainsOfCounts, grainsOfCurrent}
 use Rattle.grains.specs.Leak.{leak, leakRate}
 use Rattle.grains.specs.Run.{startedRun}
 use Rattle.numbers.specs.Signed.{magnitude}
+use Rattle.reached.specs.ChargeAfter.{chargeAfter, reachedIn, summed}
 use Rattle.reached.specs.Ending.{endingOf}
 use Rattle.reached.specs.Full.{isFull}
-use Rattle.reached.specs.Reached.{chargeEnded, filledIf}
+use Rattle.reached.specs.Reached.{chargeEnded, chargeReached, filledIf, reachedBy}
 use Rattle.sample.specs.Current.{charge, discharge}
 use Rattle.sample.specs.Range.{currentOf}
 use Rattle.history.specs.Account.{Account, afterEmptyStop, afterFull, afterSums, afterVoltage, afterWindow, fixing}
 use Rattle.history.specs.Sums.{chargeOf, grainsACount}
 use Rattle.history.specs.Tests.{reachesE1, reachesEdvf, reachesFull, stopsEmpty}
-use Rattle.reached.proofs.ChargeKept.{Bounded, chargeAfter, leak-most, moved-held}
+use Rattle.reached.proofs.ChargeKept.{Bounded, leak-most, moved-held}
 use Rattle.history.proofs.DifferenceLaws.{above-zero, at-most-zero, is-natural}
 use Rattle.history.proofs.SumTracks.{sums-difference, sums-lmd, sums-run}
 use Rattle.history.proofs.Tracking.{Tracks, fixed-is}
@@ -146,8 +147,8 @@ module _ (terms : Terms) (t : ℕ) (low : leakRate (terms .sd) t ≤ 1_920) (y :
           (sums-track (negsuc n) small (omega arith))
 
   below-tracks : (n v : ℕ) → suc n ≤ 65_535
-      → Tracks (chargeAfter terms (leakRate (terms .sd) t) (currentOf (negsuc n)) v t y) (afterWindow terms (negsuc n) (pos v) (pos t) x)
-  unfolding isFull filledIf discharge afterWindow afterFull reachesFull
+      → Tracks (chargeAfter terms (currentOf (negsuc n)) v t y) (afterWindow terms (negsuc n) (pos v) (pos t) x)
+  unfolding chargeAfter chargeReached reachedIn reachedBy summed isFull filledIf discharge afterWindow afterFull reachesFull
   below-tracks n v small =
       voltage-tracks terms n v t (chargeMoved terms t (negsuc n) y) (afterEmptyStop (negsuc n) (afterSums terms (negsuc n) (pos t) x))
       (stopped-track n small)
@@ -155,7 +156,8 @@ module _ (terms : Terms) (t : ℕ) (low : leakRate (terms .sd) t ≤ 1_920) (y :
   -- ---- c not below 0
 
   above-tracks : (n v : ℕ) → n ≤ 65_535
-      → Tracks (chargeAfter terms (leakRate (terms .sd) t) (currentOf (pos n)) v t y) (afterWindow terms (pos n) (pos v) (pos t) x)
+      → Tracks (chargeAfter terms (currentOf (pos n)) v t y) (afterWindow terms (pos n) (pos v) (pos t) x)
+  unfolding chargeAfter chargeReached reachedIn reachedBy summed
   above-tracks n v small =
       let l = leak-most y b (leakRate (terms .sd) t) low in
       let d = no-outflow n in
@@ -163,6 +165,6 @@ module _ (terms : Terms) (t : ℕ) (low : leakRate (terms .sd) t ≤ 1_920) (y :
       subst₂ Tracks (sym (no-ending terms n v t _ _)) (sym (only-full terms n (pos v) (pos t) x)) (full-tracks terms n v _ _ s)
 
   pub window-tracks : (z : ℤ) (v : ℕ) → magnitude z ≤ 65_535
-      → Tracks (chargeAfter terms (leakRate (terms .sd) t) (currentOf z) v t y) (afterWindow terms z (pos v) (pos t) x)
+      → Tracks (chargeAfter terms (currentOf z) v t y) (afterWindow terms z (pos v) (pos t) x)
   window-tracks (pos n) v small = above-tracks n v small
   window-tracks (negsuc n) v small = below-tracks n v small

@@ -15,13 +15,13 @@ use Rattle.command.specs.declared.command.Command.{Command}
 use Rattle.command.specs.declared.command.Command.the-variants.{Wrtnac, Done, Prst, Frst, Wrtlmd}
 use Rattle.configuration.specs.Terms.{Terms}
 use Rattle.grains.specs.Grains.{grainsOfCounts, grainsOfCurrent}
-use Rattle.grains.specs.Leak.{leak}
+use Rattle.grains.specs.Leak.{leak, leakRate}
 use Rattle.grains.specs.Learning.{learned}
 use Rattle.grains.specs.Run.{drained, startedRun}
 use Rattle.grains.proofs.LeakLaws.{leak-within}
-use Rattle.reached.specs.Ending.{endingOf}
+use Rattle.reached.specs.ChargeAfter.{chargeAfter, reachedIn, summed}
 use Rattle.reached.specs.Full.{isFull, taperVoltage}
-use Rattle.reached.specs.Reached.{chargeEnded, filledIf}
+use Rattle.reached.specs.Reached.{chargeEnded, chargeReached, filledIf, reachedBy}
 use Rattle.reached.specs.declared.ending.Ending.{Ending}
 use Rattle.reached.specs.declared.ending.Ending.the-variants.{Above, Edvf, Edv1, Qualified}
 use Rattle.sample.specs.Current.{charge, discharge}
@@ -180,15 +180,10 @@ ended-bounded Qualified y b =
       lmd = learned-within (y .lmd) (y .run .dcr);
     }
 
--- what the five steps of a window make of the charge
-abbrev pub chargeAfter : Terms → ℕ → Current → ℕ → ℕ → Charge → Charge
-chargeAfter terms rate c v t y =
-    chargeEnded (endingOf terms ((moved c (leaked rate y)) .run .vdq) (discharge c) v t)
-    (filledIf (isFull terms c v ((moved c (leaked rate y)) .held) ((moved c (leaked rate y)) .lmd)) (moved c (leaked rate y)))
-
-pub window-bounded : (terms : Terms) (rate : ℕ) (c : Current) (v t : ℕ) (y : Charge) → Bounded y → rate ≤ 1_920 → c .magnitude ≤ 65_535
-    → Bounded (chargeAfter terms rate c v t y)
-window-bounded terms rate c v t y b low small = ended-bounded _ _ (filled-bounded y b rate low c small terms v)
+pub window-bounded : (terms : Terms) (c : Current) (v t : ℕ) (y : Charge) → Bounded y → leakRate (terms .sd) t ≤ 1_920 → c .magnitude ≤ 65_535
+    → Bounded (chargeAfter terms c v t y)
+unfolding chargeAfter chargeReached reachedIn reachedBy summed
+window-bounded terms c v t y b low small = ended-bounded _ _ (filled-bounded y b (leakRate (terms .sd) t) low c small terms v)
 
 -- ---- a rest
 

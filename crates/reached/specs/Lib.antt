@@ -1,3 +1,4 @@
+pub mod ChargeAfter
 pub mod Ending
 pub mod Full
 pub mod Reached

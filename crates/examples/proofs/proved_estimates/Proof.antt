@@ -15,12 +15,13 @@ use Rattle.gauge.specs.Calls.{restAnswer, storedAt, windowAnswer, writeAnswer, 
 use Rattle.gauge.specs.Obey.{decided, obeyed}
 use Rattle.gauge.specs.Opening.{openAnswer, openRefusal, opened}
 use Rattle.gauge.specs.Rest.{rest}
-use Rattle.gauge.specs.Window.{reachedIn, summed, window}
+use Rattle.gauge.specs.Window.{window}
 use Rattle.grains.specs.Leak.{band, leak, leakRate, reached, weight}
 use Rattle.grains.specs.Run.{drained, runAccepted, unlessPassed}
 use Rattle.host.specs.Host.{commanded, commandsCleared, fullIf, hostObeyed, initCleared, openedHost, stored}
 use Rattle.permille.specs.Rule.{rule}
 use Rattle.permille.specs.Table.{inTable, permille}
+use Rattle.reached.specs.ChargeAfter.{chargeAfter, reachedIn, summed}
 use Rattle.reached.specs.Ending.{endingOf}
 use Rattle.reached.specs.Full.{isFull}
 use Rattle.reached.specs.Reached.{chargeEnded, chargeReached, filledIf, flagsEnded, reachedBy}
@@ -36,7 +37,7 @@ returns : tie.Need-returns
 unfolding chargeAccepted emptied filled heldMoved leaked moved openedCharge runMoved withoutRun chargeObeyed writtenLmd writtenNac rested
     restedOnce decide decide56 decideA9 highestCommandBit isReset openedMode countersMoved countersObeyed countersRested openedCounters distanceAfter
     distanceFrom estimateAfter estimateRefusal estimated clearedIf flagsObeyed settingsAccepted accepted restAnswer storedAt windowAnswer writeAnswer writeRefusal
-    written decided obeyed openAnswer openRefusal opened rest reachedIn summed window band leak leakRate reached weight drained runAccepted
+    written decided obeyed openAnswer openRefusal opened rest chargeAfter reachedIn summed window band leak leakRate reached weight drained runAccepted
     unlessPassed commanded commandsCleared fullIf hostObeyed initCleared openedHost stored rule inTable permille endingOf isFull chargeEnded
     chargeReached filledIf flagsEnded reachedBy charge counted discharge zeroOrWithin between currentInRange valueBetween currentAccepted noSample
     sampleAccepted sampleReset sampleRested averaged standbyAccepted standbyReset

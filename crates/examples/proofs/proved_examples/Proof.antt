@@ -12,11 +12,12 @@ use Rattle.flags.specs.Flags.{atEdv1, atEdvf, atTaught, clearedIf}
 use Rattle.gauge.specs.Accepted.{accepted}
 use Rattle.gauge.specs.Calls.{windowAnswer}
 use Rattle.gauge.specs.Opening.{openAnswer, openRefusal, opened}
-use Rattle.gauge.specs.Window.{reachedIn, summed, window}
+use Rattle.gauge.specs.Window.{window}
 use Rattle.grains.specs.Leak.{band, leak, leakRate, reached, weight}
 use Rattle.grains.specs.Learning.{learned}
 use Rattle.grains.specs.Run.{drained, runAccepted, unlessPassed}
 use Rattle.host.specs.Host.{fullIf, openedHost}
+use Rattle.reached.specs.ChargeAfter.{chargeAfter, reachedIn, summed}
 use Rattle.reached.specs.Ending.{endingOf, mayTeach}
 use Rattle.reached.specs.Full.{isFull}
 use Rattle.reached.specs.Reached.{chargeEnded, chargeReached, filledIf, flagsEnded, reachedBy}
@@ -33,7 +34,7 @@ use Rattle.examples.proofs.proved_examples.Tie as tie
 returns : tie.Need-returns
 unfolding chargeAccepted emptied filled heldMoved leaked moved openedCharge runMoved taught withoutRun decide decideA9 highestCommandBit
     dcmp dt minutes offsetTerm rateTerm dcompTaken openedMode flagsByte atEdv1 atEdvf atTaught clearedIf settingsAccepted accepted windowAnswer openAnswer
-    openRefusal opened reachedIn summed window band leak leakRate reached weight learned drained runAccepted unlessPassed fullIf openedHost
+    openRefusal opened chargeAfter reachedIn summed window band leak leakRate reached weight learned drained runAccepted unlessPassed fullIf openedHost
     endingOf mayTeach isFull chargeEnded chargeReached filledIf flagsEnded reachedBy tte usableAt reduction rsoc charge counted discharge
     zeroOrWithin between currentInRange valueBetween currentAccepted noSample sampleAccepted averaged standbyAccepted
     adcgn countersAccepted countersMoved openedCounters cyclesAccepted cyclesMoved cyctAfter drainWith noCycles

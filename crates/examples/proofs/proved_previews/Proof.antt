@@ -12,12 +12,13 @@ use Rattle.gauge.specs.Accepted.{accepted}
 use Rattle.gauge.specs.Calls.{storedAt, windowAnswer, writeAnswer, writeRefusal, written}
 use Rattle.gauge.specs.Obey.{decided, obeyed}
 use Rattle.gauge.specs.Opening.{openAnswer, openRefusal, opened}
-use Rattle.gauge.specs.Window.{reachedIn, summed, window}
+use Rattle.gauge.specs.Window.{window}
 use Rattle.grains.specs.Leak.{band, leak, leakRate, reached, weight}
 use Rattle.grains.specs.Run.{drained, runAccepted, unlessPassed}
 use Rattle.host.specs.Host.{commanded, commandsCleared, fullIf, hostObeyed, initCleared, openedHost, stored}
 use Rattle.preview.specs.Preview as Preview
 use Rattle.preview.specs.Preview.{commandAfter, previewRefusal}
+use Rattle.reached.specs.ChargeAfter.{chargeAfter, reachedIn, summed}
 use Rattle.reached.specs.Ending.{endingOf}
 use Rattle.reached.specs.Full.{isFull}
 use Rattle.reached.specs.Reached.{chargeEnded, chargeReached, filledIf, flagsEnded, reachedBy}
@@ -36,7 +37,7 @@ use Rattle.examples.proofs.proved_previews.Tie as tie
 returns : tie.Need-returns
 unfolding chargeAccepted emptied filled heldMoved leaked moved openedCharge runMoved withoutRun chargeObeyed writtenNac decide decideA9
     highestCommandBit isReset openedMode clearedIf flagsObeyed settingsAccepted accepted storedAt windowAnswer writeAnswer writeRefusal written decided
-    obeyed openAnswer openRefusal opened reachedIn summed window band leak leakRate reached weight drained runAccepted unlessPassed
+    obeyed openAnswer openRefusal opened chargeAfter reachedIn summed window band leak leakRate reached weight drained runAccepted unlessPassed
     commanded commandsCleared fullIf hostObeyed initCleared openedHost stored endingOf isFull chargeEnded chargeReached filledIf flagsEnded
     reachedBy charge counted discharge zeroOrWithin between currentInRange valueBetween currentAccepted noSample sampleAccepted sampleReset
     standbyAccepted standbyReset commandAfter previewRefusal commandOf decide56 rsoc Preview.replyAfter Reading.replyAfter

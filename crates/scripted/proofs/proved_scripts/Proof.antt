@@ -33,7 +33,7 @@ use Rattle.gauge.specs.Calls.{keyAnswer, restAnswer, storedAt, windowAnswer, wr
 use Rattle.gauge.specs.Obey.{decided, obeyed}
 use Rattle.gauge.specs.Opening.{openAnswer, openRefusal, opened}
 use Rattle.gauge.specs.Rest.{rest}
-use Rattle.gauge.specs.Window.{reachedIn, summed, window}
+use Rattle.gauge.specs.Window.{window}
 use Rattle.grains.specs.Leak.{band, leak, leakRate, reached, weight}
 use Rattle.grains.specs.Learning.{learned}
 use Rattle.grains.specs.Rest.{restLeak}
@@ -63,6 +63,7 @@ use Rattle.permille.specs.Rule.{rule}
 use Rattle.permille.specs.Table.{inTable, permille}
 use Rattle.preview.specs.Preview as Preview
 use Rattle.preview.specs.Preview.{commandAfter, previewRefusal}
+use Rattle.reached.specs.ChargeAfter.{chargeAfter, reachedIn, summed}
 use Rattle.reached.specs.Ending.{endingOf, mayTeach}
 use Rattle.reached.specs.Full.{isFull}
 use Rattle.reached.specs.Reached.{chargeEnded, chargeReached, filledIf, flagsEnded, reachedBy}
@@ -91,7 +92,7 @@ unfolding endedAt Feed.fed fedAt isEnded lastOutput lastOutputAt afterFirst fedF
     dcompTaken openedMode countersAccepted countersMoved countersObeyed countersRested openedCounters cyclesAccepted cyclesMoved cyctAfter drainWith
     noCycles bytesAfter calledBytes calledNumber bytesAfterSteps callsOf stepBytes distanceAfter distanceFrom estimateAfter estimateRefusal
     estimated flagsByte flagsFit flagsOf atEdv1 atEdvf atTaught clearedIf flagsObeyed laidOut inNewest widened currentOf signedPair settingsAccepted accepted
-    keyAnswer restAnswer storedAt windowAnswer writeAnswer writeRefusal written decided obeyed openAnswer openRefusal opened rest reachedIn summed
+    keyAnswer restAnswer storedAt windowAnswer writeAnswer writeRefusal written decided obeyed openAnswer openRefusal opened rest chargeAfter reachedIn summed
     window band leak leakRate reached weight learned restLeak drained runAccepted unlessPassed callBytes callNumber convertBytes convertNumber
     lookLeaves lookNumber openBytes openNumber hostPlace keptBytes keptNumber afterEmptyStop afterFull afterRest afterRestWindow afterRun afterSums
     afterVoltage afterWindow leakNow after gaugeAfter numberOf begun gains unlessAbove afterCall afterCalls afterCommand afterKey afterWork
