@@ -5,7 +5,8 @@ use Prim.Native.Nat.{ℕ, _+_, _*_, _<_, _≤_}
 use native.Mathlib.Omega.{arith}
 use lib.Dec.{eqb}
 use Rattle.command.specs.declared.command.Command.{Command}
-use Rattle.command.specs.declared.command.Command.the-variants.{Wrtnac, Done, Prst, Frst, Wrtlmd}
+use Rattle.command.specs.declared.command.Command.the-variants.{Setting, Reset}
+use Rattle.command.specs.declared.command.Setting.the-variants.{Wrtnac, Done, Wrtlmd}
 use Rattle.configuration.specs.Configuration.{pkcfg}
 use Rattle.configuration.specs.Terms.{termsOf}
 use Rattle.configuration.proofs.ModeLaws.{opened-mode-is}
@@ -72,8 +73,7 @@ stored-fits address value h small f = go (eqb address 1) (eqb address 2)
 
 pub obeyed-fits : (command : Command) (c : List ℕ) (h : Host) → HostFits h → HostFits (hostObeyed command (termsOf c) h)
 unfolding hostObeyed commanded openedHost fullIf
-obeyed-fits Wrtnac c h f = record { mode = commands-cleared-fits _; ar = f .ar }
-obeyed-fits Done c h f = record { mode = commands-cleared-fits _; ar = f .ar }
-obeyed-fits Prst c h f = record { mode = commands-cleared-fits _; ar = omega arith }
-obeyed-fits Frst c h f = record { mode = commands-cleared-fits _; ar = omega arith }
-obeyed-fits Wrtlmd c h f = record { mode = commands-cleared-fits _; ar = f .ar }
+obeyed-fits (Setting Wrtnac) c h f = record { mode = commands-cleared-fits _; ar = f .ar }
+obeyed-fits (Setting Done) c h f = record { mode = commands-cleared-fits _; ar = f .ar }
+obeyed-fits (Setting Wrtlmd) c h f = record { mode = commands-cleared-fits _; ar = f .ar }
+obeyed-fits (Reset reset) c h f = record { mode = commands-cleared-fits _; ar = omega arith }

@@ -2,6 +2,7 @@
 ghost use mathlib.Core.Path.{_≡_};
 ghost use Rattle.configuration.specs.Terms.{termsOf};
 ghost use Rattle.standby.specs.Standby as Spec;
+use command::command::Command;
 use configuration::configuration::Configuration;
 use configuration::configuration::s0;
 
@@ -12,14 +13,14 @@ pub fn opened_standby(configuration: Configuration) -> u16
     16 * s0(configuration)
 }
 
-// As opened, where a command resets.
-pub fn reset_if(reset: bool, configuration: Configuration, standby: u16) -> u16
-    ensures { λ r. ⌜ r ≡ Spec.standbyReset reset ((termsOf configuration) .s0) standby ⌝ }
+// Settings leave it; resets put it as opened.
+pub fn standby_obeyed(command: Command, configuration: Configuration, standby: u16) -> u16
+    ensures { λ r. ⌜ r ≡ Spec.standbyObeyed command ((termsOf configuration) .s0) standby ⌝ }
 {
-    if reset {
-        return opened_standby(configuration);
+    match command {
+        Command::Setting(_) => standby,
+        Command::Reset(_) => opened_standby(configuration),
     }
-    standby
 }
 
 // Averaged over light loads.
