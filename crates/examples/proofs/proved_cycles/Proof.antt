@@ -3,7 +3,7 @@ use mathlib.Core.Path.{refl}
 use Rattle.charge.specs.Charge.{chargeAccepted, emptied, filled, heldMoved, leaked, moved, openedCharge, runMoved, taught, withoutRun}
 use Rattle.charge.specs.Obeyed.{chargeObeyed, writtenLmd, writtenNac}
 use Rattle.charge.specs.Rest.{rested, restedOnce}
-use Rattle.command.specs.Command.{decide, decide56, decideA9, highestCommandBit, isReset}
+use Rattle.command.specs.Command.{decide, decideBy, highestCommandBit}
 use Rattle.compensation.specs.Compensation.{adcgn, dcmp, dt, minutes, offsetTerm, rateTerm}
 use Rattle.configuration.specs.Configuration.{dcompTaken, openedMode}
 use Rattle.counters.specs.Counters.{countersAccepted, countersMoved, countersObeyed, countersRested, openedCounters}
@@ -28,19 +28,19 @@ use Rattle.registers.specs.Values.{cac, fcac, reduction}
 use Rattle.sample.specs.Current.{charge, counted, discharge}
 use Rattle.sample.specs.Limits.{zeroOrWithin}
 use Rattle.sample.specs.Range.{between, currentInRange, valueBetween}
-use Rattle.sample.specs.Sample.{currentAccepted, noSample, sampleAccepted, sampleReset, sampleRested}
-use Rattle.standby.specs.Standby.{averaged, standbyAccepted, standbyReset}
+use Rattle.sample.specs.Sample.{currentAccepted, noSample, sampleAccepted, sampleObeyed, sampleRested}
+use Rattle.standby.specs.Standby.{averaged, standbyAccepted, standbyObeyed}
 use Rattle.examples.proofs.proved_cycles.Statement.{statement}
 use Rattle.examples.proofs.proved_cycles.Tie as tie
 
 returns : tie.Need-returns
 unfolding chargeAccepted emptied filled heldMoved leaked moved openedCharge runMoved withoutRun chargeObeyed writtenLmd writtenNac rested
-    restedOnce decide decide56 decideA9 highestCommandBit isReset openedMode countersMoved countersObeyed countersRested openedCounters
+    restedOnce decide decideBy highestCommandBit openedMode countersMoved countersObeyed countersRested openedCounters
     clearedIf flagsObeyed accepted restAnswer storedAt windowAnswer writeAnswer writeRefusal
     written decided obeyed openAnswer openRefusal opened rest reachedIn summed window band leak leakRate reached weight drained runAccepted
     unlessPassed commanded commandsCleared fullIf hostObeyed initCleared openedHost stored endingOf isFull chargeEnded
     chargeReached filledIf flagsEnded reachedBy charge counted discharge zeroOrWithin between currentInRange valueBetween currentAccepted noSample
-    sampleAccepted sampleReset sampleRested averaged standbyAccepted standbyReset
+    sampleAccepted sampleObeyed sampleRested averaged standbyAccepted standbyObeyed
     countersAccepted cyclesAccepted noCycles cyclesMoved cyctAfter drainWith
     adcgn dcmp dt minutes offsetTerm rateTerm dcompTaken lookUp register rows artte tte cac fcac reduction learned mayTeach taught atTaught
 returns c =

@@ -3,7 +3,7 @@ use mathlib.Core.Path.{refl}
 use Rattle.charge.specs.Charge.{chargeAccepted, emptied, filled, heldMoved, leaked, moved, openedCharge, runMoved, withoutRun}
 use Rattle.charge.specs.Obeyed.{chargeObeyed, writtenLmd, writtenNac}
 use Rattle.charge.specs.Rest.{rested, restedOnce}
-use Rattle.command.specs.Command.{decide, decide56, decideA9, highestCommandBit, isReset}
+use Rattle.command.specs.Command.{decide, decideBy, highestCommandBit}
 use Rattle.configuration.specs.Configuration.{openedMode}
 use Rattle.counters.specs.Counters.{countersAccepted, countersMoved, countersObeyed, countersRested, openedCounters}
 use Rattle.counters.specs.Cycles.{cyclesAccepted, cyclesMoved, cyctAfter, drainWith, noCycles}
@@ -26,19 +26,19 @@ use Rattle.reached.specs.Reached.{chargeEnded, chargeReached, filledIf, flagsEn
 use Rattle.sample.specs.Current.{charge, counted, discharge}
 use Rattle.sample.specs.Limits.{zeroOrWithin}
 use Rattle.sample.specs.Range.{between, currentInRange, valueBetween}
-use Rattle.sample.specs.Sample.{currentAccepted, noSample, sampleAccepted, sampleReset, sampleRested}
-use Rattle.standby.specs.Standby.{averaged, standbyAccepted, standbyReset}
+use Rattle.sample.specs.Sample.{currentAccepted, noSample, sampleAccepted, sampleObeyed, sampleRested}
+use Rattle.standby.specs.Standby.{averaged, standbyAccepted, standbyObeyed}
 use Rattle.examples.proofs.proved_estimates.Statement.{statement}
 use Rattle.examples.proofs.proved_estimates.Tie as tie
 
 returns : tie.Need-returns
 unfolding chargeAccepted emptied filled heldMoved leaked moved openedCharge runMoved withoutRun chargeObeyed writtenLmd writtenNac rested
-    restedOnce decide decide56 decideA9 highestCommandBit isReset openedMode countersMoved countersObeyed countersRested openedCounters distanceAfter
+    restedOnce decide decideBy highestCommandBit openedMode countersMoved countersObeyed countersRested openedCounters distanceAfter
     distanceFrom estimateAfter estimateRefusal estimated clearedIf flagsObeyed accepted restAnswer storedAt windowAnswer writeAnswer writeRefusal
     written decided obeyed openAnswer openRefusal opened rest reachedIn summed window band leak leakRate reached weight drained runAccepted
     unlessPassed commanded commandsCleared fullIf hostObeyed initCleared openedHost stored rule inTable permille endingOf isFull chargeEnded
     chargeReached filledIf flagsEnded reachedBy charge counted discharge zeroOrWithin between currentInRange valueBetween currentAccepted noSample
-    sampleAccepted sampleReset sampleRested averaged standbyAccepted standbyReset
+    sampleAccepted sampleObeyed sampleRested averaged standbyAccepted standbyObeyed
     countersAccepted cyclesAccepted noCycles cyclesMoved cyctAfter drainWith
 returns c =
     record {

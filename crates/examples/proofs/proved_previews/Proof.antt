@@ -2,7 +2,7 @@
 use mathlib.Core.Path.{refl}
 use Rattle.charge.specs.Charge.{chargeAccepted, emptied, filled, heldMoved, leaked, moved, openedCharge, runMoved, withoutRun}
 use Rattle.charge.specs.Obeyed.{chargeObeyed, writtenLmd, writtenNac}
-use Rattle.command.specs.Command.{commandOf, decide, decide56, decideA9, highestCommandBit, isReset}
+use Rattle.command.specs.Command.{commandOf, decide, decideBy, highestCommandBit}
 use Rattle.configuration.specs.Configuration.{openedMode}
 use Rattle.counters.specs.Counters.{countersAccepted, countersMoved, countersObeyed, openedCounters}
 use Rattle.counters.specs.Cycles.{cyclesAccepted, cyclesMoved, cyctAfter, drainWith, noCycles}
@@ -27,18 +27,18 @@ use Rattle.registers.specs.Values.{rsoc}
 use Rattle.sample.specs.Current.{charge, counted, discharge}
 use Rattle.sample.specs.Limits.{zeroOrWithin}
 use Rattle.sample.specs.Range.{between, currentInRange, valueBetween}
-use Rattle.sample.specs.Sample.{currentAccepted, noSample, sampleAccepted, sampleReset}
-use Rattle.standby.specs.Standby.{averaged, standbyAccepted, standbyReset}
+use Rattle.sample.specs.Sample.{currentAccepted, noSample, sampleAccepted, sampleObeyed}
+use Rattle.standby.specs.Standby.{averaged, standbyAccepted, standbyObeyed}
 use Rattle.examples.proofs.proved_previews.Statement.{statement}
 use Rattle.examples.proofs.proved_previews.Tie as tie
 
 returns : tie.Need-returns
-unfolding chargeAccepted emptied filled heldMoved leaked moved openedCharge runMoved withoutRun chargeObeyed writtenNac decide decideA9
-    highestCommandBit isReset openedMode clearedIf flagsObeyed accepted storedAt windowAnswer writeAnswer writeRefusal written decided
+unfolding chargeAccepted emptied filled heldMoved leaked moved openedCharge runMoved withoutRun chargeObeyed writtenNac decide decideBy
+    highestCommandBit openedMode clearedIf flagsObeyed accepted storedAt windowAnswer writeAnswer writeRefusal written decided
     obeyed openAnswer openRefusal opened reachedIn summed window band leak leakRate reached weight drained runAccepted unlessPassed
     commanded commandsCleared fullIf hostObeyed initCleared openedHost stored endingOf isFull chargeEnded chargeReached filledIf flagsEnded
-    reachedBy charge counted discharge zeroOrWithin between currentInRange valueBetween currentAccepted noSample sampleAccepted sampleReset
-    standbyAccepted standbyReset commandAfter previewRefusal commandOf decide56 rsoc Preview.replyAfter Reading.replyAfter
+    reachedBy charge counted discharge zeroOrWithin between currentInRange valueBetween currentAccepted noSample sampleAccepted sampleObeyed
+    standbyAccepted standbyObeyed commandAfter previewRefusal commandOf rsoc Preview.replyAfter Reading.replyAfter
     readRefusal placeRefusal registersFrom register lookUp rows writtenLmd averaged
     countersAccepted countersMoved countersObeyed openedCounters cyclesAccepted cyclesMoved cyctAfter drainWith noCycles
 returns c =

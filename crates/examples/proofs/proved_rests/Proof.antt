@@ -3,7 +3,7 @@ use mathlib.Core.Path.{refl}
 use Rattle.charge.specs.Charge.{chargeAccepted, filled, leaked, openedCharge}
 use Rattle.charge.specs.Obeyed.{chargeObeyed}
 use Rattle.charge.specs.Rest.{rested, restedOnce}
-use Rattle.command.specs.Command.{decide, decideA9, highestCommandBit, isReset}
+use Rattle.command.specs.Command.{decide, decideBy, highestCommandBit}
 use Rattle.configuration.specs.Configuration.{openedMode}
 use Rattle.counters.specs.Counters.{countersAccepted, countersObeyed, countersRested, openedCounters}
 use Rattle.counters.specs.Cycles.{cyclesAccepted, noCycles}
@@ -19,16 +19,16 @@ use Rattle.grains.specs.Run.{drained, runAccepted, unlessPassed}
 use Rattle.host.specs.Host.{commanded, commandsCleared, hostObeyed, initCleared, openedHost, stored}
 use Rattle.sample.specs.Limits.{zeroOrWithin}
 use Rattle.sample.specs.Range.{between, valueBetween}
-use Rattle.sample.specs.Sample.{currentAccepted, noSample, sampleAccepted, sampleReset, sampleRested}
-use Rattle.standby.specs.Standby.{standbyAccepted, standbyReset}
+use Rattle.sample.specs.Sample.{currentAccepted, noSample, sampleAccepted, sampleObeyed, sampleRested}
+use Rattle.standby.specs.Standby.{standbyAccepted, standbyObeyed}
 use Rattle.examples.proofs.proved_rests.Statement.{statement}
 use Rattle.examples.proofs.proved_rests.Tie as tie
 
 returns : tie.Need-returns
-unfolding chargeAccepted filled leaked openedCharge chargeObeyed rested restedOnce decide decideA9 highestCommandBit isReset openedMode flagsObeyed
+unfolding chargeAccepted filled leaked openedCharge chargeObeyed rested restedOnce decide decideBy highestCommandBit openedMode flagsObeyed
     accepted restAnswer storedAt writeAnswer writeRefusal written decided obeyed openAnswer openRefusal opened rest band leak leakRate reached weight
     stepWindows drained runAccepted unlessPassed commanded commandsCleared hostObeyed initCleared openedHost stored zeroOrWithin between valueBetween
-    currentAccepted noSample sampleAccepted sampleReset sampleRested standbyAccepted standbyReset
+    currentAccepted noSample sampleAccepted sampleObeyed sampleRested standbyAccepted standbyObeyed
     countersAccepted countersObeyed countersRested openedCounters cyclesAccepted noCycles
 returns c =
     record {

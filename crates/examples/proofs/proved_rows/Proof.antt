@@ -1,7 +1,7 @@
 -- Each row holds by computation. Assumes nothing.
 use mathlib.Core.Path.{refl}
 use Rattle.charge.specs.Charge.{chargeAccepted, emptied, filled, heldMoved, leaked, moved, openedCharge, runMoved, taught, withoutRun}
-use Rattle.command.specs.Command.{decide, decide56, decideA9, highestCommandBit}
+use Rattle.command.specs.Command.{decide, decideBy, highestCommandBit}
 use Rattle.compensation.specs.Compensation.{adcgn, dcmp, dt, minutes, offsetTerm, rateTerm}
 use Rattle.configuration.specs.Configuration.{dcompTaken, openedMode}
 use Rattle.counters.specs.Counters.{countersAccepted, countersMoved, countersObeyed, openedCounters}
@@ -30,7 +30,7 @@ use Rattle.examples.proofs.proved_rows.Statement.{statement}
 use Rattle.examples.proofs.proved_rows.Tie as tie
 
 returns : tie.Need-returns
-unfolding chargeAccepted emptied filled heldMoved leaked moved openedCharge runMoved taught withoutRun decide decide56 decideA9
+unfolding chargeAccepted emptied filled heldMoved leaked moved openedCharge runMoved taught withoutRun decide decideBy
     highestCommandBit dcmp dt minutes offsetTerm rateTerm dcompTaken openedMode flagsByte atEdv1 atEdvf atTaught clearedIf accepted storedAt
     windowAnswer writeAnswer writeRefusal written openAnswer openRefusal opened reachedIn summed window band leak leakRate reached weight
     learned drained runAccepted unlessPassed commandsCleared fullIf initCleared openedHost stored endingOf mayTeach isFull chargeEnded

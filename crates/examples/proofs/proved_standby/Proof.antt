@@ -2,7 +2,7 @@
 use mathlib.Core.Path.{refl}
 use Rattle.charge.specs.Charge.{chargeAccepted, emptied, filled, heldMoved, leaked, moved, openedCharge, runMoved, withoutRun}
 use Rattle.charge.specs.Obeyed.{chargeObeyed, writtenNac}
-use Rattle.command.specs.Command.{decide, decideA9, highestCommandBit, isReset}
+use Rattle.command.specs.Command.{decide, decideBy, highestCommandBit}
 use Rattle.compensation.specs.Compensation.{minutes}
 use Rattle.configuration.specs.Configuration.{openedMode}
 use Rattle.counters.specs.Counters.{countersAccepted, countersMoved, countersObeyed, openedCounters}
@@ -23,19 +23,19 @@ use Rattle.registers.specs.Times.{stte}
 use Rattle.sample.specs.Current.{charge, counted, discharge}
 use Rattle.sample.specs.Limits.{zeroOrWithin}
 use Rattle.sample.specs.Range.{between, currentInRange, valueBetween}
-use Rattle.sample.specs.Sample.{currentAccepted, noSample, sampleAccepted, sampleReset}
-use Rattle.standby.specs.Standby.{averaged, shown, standbyAccepted, standbyReset}
+use Rattle.sample.specs.Sample.{currentAccepted, noSample, sampleAccepted, sampleObeyed}
+use Rattle.standby.specs.Standby.{averaged, shown, standbyAccepted, standbyObeyed}
 use Rattle.examples.specs.StandbyRows.{afterLoads}
 use Rattle.examples.proofs.proved_standby.Statement.{statement}
 use Rattle.examples.proofs.proved_standby.Tie as tie
 
 returns : tie.Need-returns
-unfolding chargeAccepted emptied filled heldMoved leaked moved openedCharge runMoved withoutRun chargeObeyed writtenNac decide decideA9
-    highestCommandBit isReset minutes openedMode clearedIf flagsObeyed accepted storedAt windowAnswer writeAnswer writeRefusal written decided
+unfolding chargeAccepted emptied filled heldMoved leaked moved openedCharge runMoved withoutRun chargeObeyed writtenNac decide decideBy
+    highestCommandBit minutes openedMode clearedIf flagsObeyed accepted storedAt windowAnswer writeAnswer writeRefusal written decided
     obeyed openAnswer openRefusal opened reachedIn summed window band leak leakRate reached weight drained runAccepted unlessPassed
     commanded commandsCleared fullIf hostObeyed initCleared openedHost stored endingOf isFull chargeEnded chargeReached filledIf flagsEnded reachedBy
-    stte charge counted discharge zeroOrWithin between currentInRange valueBetween currentAccepted noSample sampleAccepted sampleReset averaged
-    shown standbyAccepted standbyReset afterLoads
+    stte charge counted discharge zeroOrWithin between currentInRange valueBetween currentAccepted noSample sampleAccepted sampleObeyed averaged
+    shown standbyAccepted standbyObeyed afterLoads
     countersAccepted countersMoved countersObeyed openedCounters cyclesAccepted cyclesMoved cyctAfter drainWith noCycles
 returns c =
     record {
