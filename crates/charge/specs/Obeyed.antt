@@ -1,7 +1,9 @@
 -- What each command of "Opening and host bytes" in paper 01 makes of the charge. Definitions only; assumes nothing.
 use Prim.Native.Nat.{ℕ, min}
 use Rattle.command.specs.declared.command.Command.{Command}
-use Rattle.command.specs.declared.command.Command.the-variants.{Wrtnac, Done, Prst, Frst, Wrtlmd}
+use Rattle.command.specs.declared.command.Command.the-variants.{Setting, Reset}
+use Rattle.command.specs.declared.command.Reset.the-variants.{Prst, Frst}
+use Rattle.command.specs.declared.command.Setting.the-variants.{Wrtnac, Done, Wrtlmd}
 use Rattle.configuration.specs.Terms.{Terms}
 use Rattle.grains.specs.Grains.{grainsOfCounts}
 use Rattle.grains.specs.Run.{noRun}
@@ -18,8 +20,8 @@ writtenLmd ar x = record { held = min (x .held) (grainsOfCounts ar); lmd = ar; r
 
 -- "DONE: as full in step 3", "FRST: as opened", "PRST: as opened but h, LMD .. kept"
 unfoldable pub chargeObeyed : Command → Terms → ℕ → Charge → Charge
-chargeObeyed Wrtnac terms ar x = writtenNac ar x
-chargeObeyed Done terms ar x = filled x
-chargeObeyed Prst terms ar x = withoutRun x
-chargeObeyed Frst terms ar x = openedCharge terms
-chargeObeyed Wrtlmd terms ar x = writtenLmd ar x
+chargeObeyed (Setting Wrtnac) terms ar x = writtenNac ar x
+chargeObeyed (Setting Done) terms ar x = filled x
+chargeObeyed (Setting Wrtlmd) terms ar x = writtenLmd ar x
+chargeObeyed (Reset Prst) terms ar x = withoutRun x
+chargeObeyed (Reset Frst) terms ar x = openedCharge terms

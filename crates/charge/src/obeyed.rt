@@ -5,6 +5,8 @@ ghost use Rattle.configuration.specs.Terms.{termsOf};
 ghost use Rattle.charge.specs.Obeyed as Spec;
 use crate::charge::Charge;
 use command::command::Command;
+use command::command::Reset;
+use command::command::Setting;
 use configuration::settings::Settings;
 use grains::grains::grains_of_counts;
 use grains::run::Run;
@@ -42,11 +44,15 @@ impl Charge {
         ensures { λ r. ⌜ r ≡ Spec.chargeObeyed command (termsOf settings) ar self ⌝ }
     {
         match command {
-            Command::Wrtnac => self.written_nac(ar),
-            Command::Done => self.filled(),
-            Command::Prst => self.without_run(),
-            Command::Frst => Charge::opened(settings),
-            Command::Wrtlmd => self.written_lmd(ar),
+            Command::Setting(setting) => match setting {
+                Setting::Wrtnac => self.written_nac(ar),
+                Setting::Done => self.filled(),
+                Setting::Wrtlmd => self.written_lmd(ar),
+            },
+            Command::Reset(reset) => match reset {
+                Reset::Prst => self.without_run(),
+                Reset::Frst => Charge::opened(settings),
+            },
         }
     }
 }

@@ -1,76 +1,68 @@
--- What a key decides: WRTLMD is obeyed only where AR is above 0, and a refusal's number is at most 13. Assumes nothing.
+-- What a key decides, by whatever table: a refusal's number is at most 13, WRTLMD is obeyed only where AR is above 0, and MODEs with the same
+-- highest command bit decide alike. Assumes nothing.
 use Prim.Native.Nat.{ℕ, _<_, _≤_}
-use Rattle.command.specs.Command.{decide, decide56, decideA9, decisionNumber, highestCommandBit, noBit}
-use Rattle.command.specs.declared.command.Command.the-variants.{Wrtnac, Done, Prst, Frst, Wrtlmd}
-use Rattle.command.specs.declared.command.Decision.the-variants.{Obey, Refused}
+use Rattle.command.specs.Command.{Table, commandAt, commands, decide, decideBy, decideRow, decisionNumber, highestCommandBit, isKey, isWrtlmd, noBit}
+use Rattle.command.specs.declared.command.Command.{Command}
+use Rattle.command.specs.declared.command.Command.the-variants.{Setting}
 use Rattle.command.specs.declared.command.Decision.{Decision}
+use Rattle.command.specs.declared.command.Decision.the-variants.{Obey, Refused}
+use Rattle.command.specs.declared.command.Setting.the-variants.{Wrtlmd}
 use Rattle.refusals.specs.Refusal as Refusal
 use borrow.Author.Tests.{eqb-false}
 use lib.Dec.{eqb}
-use mathlib.Core.Bool.{Bool, false, true, cond}
-use mathlib.Core.Path.{_≡_, refl}
+use mathlib.Core.Bool.{Bool, false, true, cond, _&&_}
+use mathlib.Core.Option.{Option, none, some}
+use mathlib.Core.Path.{_≡_, refl, sym, ap, _∙_}
 use native.Mathlib.Omega.{arith}
 
--- ---- WRTLMD
+-- what holds of each refusal, and of each command that is obeyed, holds of every decision
+module _ (ar : ℕ) (P : Decision → Type 0) (unknown : P (Refused Refusal.unknownKey)) (no-bit : P (Refused Refusal.noCommandBit))
+    (not-carried : P (Refused Refusal.notCarried)) (zero-ar : P (Refused Refusal.wrtlmdZero))
+    (obeyed : (command : Command) → (isWrtlmd command && eqb ar 0) ≡ false → P (Obey command)) where
+  either : (t : Bool) (d e : Decision) → P d → P e → P (cond t d e)
+  either true d e p q = p
+  either false d e p q = q
 
-refused-other : {A : Type 0} (n : ℕ) → Refused n ≡ Obey Wrtlmd → A
-refused-other n e = let z : _≡_ {A = ℕ} 0 1 = cc in absurd (omega arith)
+  unless-zero : (t : Bool) (command : Command) → (isWrtlmd command && eqb ar 0) ≡ t → P (cond t (Refused Refusal.wrtlmdZero) (Obey command))
+  unless-zero true command e = zero-ar
+  unless-zero false command e = obeyed command e
 
-a9-other : {A : Type 0} (bit : ℕ) → decideA9 bit ≡ Obey Wrtlmd → A
-unfolding decideA9
-a9-other bit = go (eqb bit 5) (eqb bit 4) (eqb bit 3) (eqb bit 1) (eqb bit 0)
-  where
-    go : {A : Type 0} (b5 b4 b3 b1 b0 : Bool)
-        → cond b5 (Obey Wrtnac) (cond b4 (Obey Done) (cond b3 (Obey Prst) (cond b1 (Obey Frst)
-        (cond b0 (Refused Refusal.notCarried) (Refused Refusal.noCommandBit))))) ≡ Obey Wrtlmd → A
-    go true b4 b3 b1 b0 e = let z : _≡_ {A = ℕ} 0 1 = cc in absurd (omega arith)
-    go false true b3 b1 b0 e = let z : _≡_ {A = ℕ} 0 1 = cc in absurd (omega arith)
-    go false false true b1 b0 e = let z : _≡_ {A = ℕ} 0 1 = cc in absurd (omega arith)
-    go false false false true b0 e = let z : _≡_ {A = ℕ} 0 1 = cc in absurd (omega arith)
-    go false false false false true e = refused-other Refusal.notCarried e
-    go false false false false false e = refused-other Refusal.noCommandBit e
+  of-row : (found : Option Command) → P (decideRow ar found)
+  of-row none = not-carried
+  of-row (some command) = unless-zero (isWrtlmd command && eqb ar 0) command refl
 
-above-56 : (ar bit : ℕ) → decide56 ar bit ≡ Obey Wrtlmd → 0 < ar
-unfolding decide56
-above-56 ar bit = go (eqb bit 0) (eqb ar 0) (eqb bit noBit) refl
-  where
-    go : (p q r : Bool) → eqb ar 0 ≡ q
-        → cond p (cond q (Refused Refusal.wrtlmdZero) (Obey Wrtlmd)) (cond r (Refused Refusal.noCommandBit) (Refused Refusal.notCarried))
-        ≡ Obey Wrtlmd → 0 < ar
-    go true true r f e = refused-other Refusal.wrtlmdZero e
-    go true false r f e = let n : ar ≡ 0 → ⊥ = eqb-false ar 0 f in omega arith
-    go false q true f e = refused-other Refusal.noCommandBit e
-    go false q false f e = refused-other Refusal.notCarried e
+  pub of-decision : (table : Table) (key bit : ℕ) → P (decideBy table key bit ar)
+  unfolding decideBy
+  of-decision table key bit =
+      either (isKey key (table .keys)) _ _ (either (eqb bit noBit) _ _ no-bit (of-row (commandAt key bit (table .rows)))) unknown
 
-pub wrtlmd-above : (key mode ar : ℕ) → decide key mode ar ≡ Obey Wrtlmd → 0 < ar
-unfolding decide
-wrtlmd-above key mode ar = go (eqb key 0xA9) (eqb key 0x56)
-  where
-    go : (p q : Bool)
-        → cond p (decideA9 (highestCommandBit mode)) (cond q (decide56 ar (highestCommandBit mode)) (Refused Refusal.unknownKey)) ≡ Obey Wrtlmd
-        → 0 < ar
-    go true q e = a9-other (highestCommandBit mode) e
-    go false true e = above-56 ar (highestCommandBit mode) e
-    go false false e = refused-other Refusal.unknownKey e
+module _ (table : Table) (key bit ar : ℕ) where
+  pub refusal-most : decisionNumber (decideBy table key bit ar) ≤ 13
+  refusal-most =
+      of-decision ar (λ d. decisionNumber d ≤ 13) (omega arith) (omega arith) (omega arith) (omega arith) (λ command e. omega arith) table key bit
 
--- ---- the numbers
+  pub wrtlmd-above-zero : decideBy table key bit ar ≡ Obey (Setting Wrtlmd) → 0 < ar
+  wrtlmd-above-zero =
+      of-decision ar (λ d. d ≡ Obey (Setting Wrtlmd) → 0 < ar) refused refused refused refused only-above table key bit
+    where
+      refused : {n : ℕ} → Refused n ≡ Obey (Setting Wrtlmd) → 0 < ar
+      refused e = let z : _≡_ {A = ℕ} 0 1 = cc in absurd (omega arith)
 
-decided-most : (t : Bool) (d e : Decision) → decisionNumber d ≤ 13 → decisionNumber e ≤ 13 → decisionNumber (cond t d e) ≤ 13
-decided-most true d e p q = p
-decided-most false d e p q = q
+      only-above : (command : Command) → (isWrtlmd command && eqb ar 0) ≡ false → Obey command ≡ Obey (Setting Wrtlmd) → 0 < ar
+      only-above command f e =
+          let same : command ≡ Setting Wrtlmd = cc in
+          let n : ar ≡ 0 → ⊥ = eqb-false ar 0 (ap (λ (c : Command). isWrtlmd c && eqb ar 0) (sym same) ∙ f) in
+          omega arith
 
-pub key-most : (key mode ar : ℕ) → decisionNumber (decide key mode ar) ≤ 13
-unfolding decide decideA9 decide56
-key-most key mode ar =
-    let bit = highestCommandBit mode in
-    decided-most (eqb key 0xA9) (decideA9 bit) _
-    (decided-most (eqb bit 5) (Obey Wrtnac) _ (omega arith)
-    (decided-most (eqb bit 4) (Obey Done) _ (omega arith)
-    (decided-most (eqb bit 3) (Obey Prst) _ (omega arith)
-    (decided-most (eqb bit 1) (Obey Frst) _ (omega arith)
-    (decided-most (eqb bit 0) (Refused Refusal.notCarried) (Refused Refusal.noCommandBit) (omega arith) (omega arith))))))
-    (decided-most (eqb key 0x56) (decide56 ar bit) (Refused Refusal.unknownKey)
-    (decided-most (eqb bit 0) _ _
-    (decided-most (eqb ar 0) (Refused Refusal.wrtlmdZero) (Obey Wrtlmd) (omega arith) (omega arith))
-    (decided-most (eqb bit noBit) (Refused Refusal.noCommandBit) (Refused Refusal.notCarried) (omega arith) (omega arith)))
-    (omega arith))
+module _ (key mode ar : ℕ) where
+  pub key-most : decisionNumber (decide key mode ar) ≤ 13
+  unfolding decide
+  key-most = refusal-most commands key (highestCommandBit mode) ar
+
+  pub wrtlmd-above : decide key mode ar ≡ Obey (Setting Wrtlmd) → 0 < ar
+  unfolding decide
+  wrtlmd-above = wrtlmd-above-zero commands key (highestCommandBit mode) ar
+
+  pub bit-decides : (other : ℕ) → highestCommandBit mode ≡ highestCommandBit other → decide key mode ar ≡ decide key other ar
+  unfolding decide
+  bit-decides other e = ap (λ (bit : ℕ). decideBy commands key bit ar) e

@@ -6,12 +6,23 @@ use refusals::NOT_CARRIED;
 use refusals::UNKNOWN_KEY;
 use refusals::WRTLMD_ZERO;
 
-pub enum Command {
+// What a host sets by hand.
+pub enum Setting {
     Wrtnac,
     Done,
+    Wrtlmd,
+}
+
+// What puts the gauge as opened, in part or whole.
+pub enum Reset {
     Prst,
     Frst,
-    Wrtlmd,
+}
+
+// The commands by their kinds.
+pub enum Command {
+    Setting(Setting),
+    Reset(Reset),
 }
 
 // What a key at CTRL means with MODE and AR: a command, or the number of its refusal.
@@ -37,38 +48,40 @@ pub fn highest_command_bit(mode: u8) -> u32
     31 - u32::leading_zeros(bits as u32)
 }
 
-fn decide_a9(bit: u32) -> Decision
-    ensures { λ r. ⌜ r ≡ Spec.decideA9 bit ⌝ }
+// The rows of key 0xA9.
+fn decide_a9(bit: u32, ar: u16) -> Decision
+    ensures { λ r. ⌜ r ≡ Spec.decideBy Spec.commands 0xA9 bit ar ⌝ }
 {
+    if bit == NO_BIT {
+        return Decision::Refused(NO_COMMAND_BIT);
+    }
     if bit == 5 {
-        return Decision::Obey(Command::Wrtnac);
+        return Decision::Obey(Command::Setting(Setting::Wrtnac));
     }
     if bit == 4 {
-        return Decision::Obey(Command::Done);
+        return Decision::Obey(Command::Setting(Setting::Done));
     }
     if bit == 3 {
-        return Decision::Obey(Command::Prst);
+        return Decision::Obey(Command::Reset(Reset::Prst));
     }
     if bit == 1 {
-        return Decision::Obey(Command::Frst);
+        return Decision::Obey(Command::Reset(Reset::Frst));
     }
-    if bit == 0 {
-        return Decision::Refused(NOT_CARRIED);
-    }
-    Decision::Refused(NO_COMMAND_BIT)
+    Decision::Refused(NOT_CARRIED)
 }
 
-fn decide_56(ar: u16, bit: u32) -> Decision
-    ensures { λ r. ⌜ r ≡ Spec.decide56 ar bit ⌝ }
+// The row of key 0x56.
+fn decide_56(bit: u32, ar: u16) -> Decision
+    ensures { λ r. ⌜ r ≡ Spec.decideBy Spec.commands 0x56 bit ar ⌝ }
 {
+    if bit == NO_BIT {
+        return Decision::Refused(NO_COMMAND_BIT);
+    }
     if bit == 0 {
         if ar == 0 {
             return Decision::Refused(WRTLMD_ZERO);
         }
-        return Decision::Obey(Command::Wrtlmd);
-    }
-    if bit == NO_BIT {
-        return Decision::Refused(NO_COMMAND_BIT);
+        return Decision::Obey(Command::Setting(Setting::Wrtlmd));
     }
     Decision::Refused(NOT_CARRIED)
 }
@@ -77,10 +90,10 @@ pub fn decide(key: u8, mode: u8, ar: u16) -> Decision
     ensures { λ r. ⌜ r ≡ Spec.decide key mode ar ⌝ }
 {
     if key == 0xA9 {
-        return decide_a9(highest_command_bit(mode));
+        return decide_a9(highest_command_bit(mode), ar);
     }
     if key == 0x56 {
-        return decide_56(ar, highest_command_bit(mode));
+        return decide_56(highest_command_bit(mode), ar);
     }
     Decision::Refused(UNKNOWN_KEY)
 }
@@ -93,11 +106,15 @@ fn command_number(command: Command) -> u8
     ensures { λ r. ⌜ r ≡ Spec.commandNumber command ⌝ }
 {
     match command {
-        Command::Wrtnac => 1,
-        Command::Done => 2,
-        Command::Prst => 3,
-        Command::Frst => 4,
-        Command::Wrtlmd => 5,
+        Command::Setting(setting) => match setting {
+            Setting::Wrtnac => 1,
+            Setting::Done => 2,
+            Setting::Wrtlmd => 5,
+        },
+        Command::Reset(reset) => match reset {
+            Reset::Prst => 3,
+            Reset::Frst => 4,
+        },
     }
 }
 
@@ -109,18 +126,5 @@ pub fn command_of(key: u8, mode: u8, ar: u16) -> u8
     match decision {
         Decision::Obey(command) => command_number(command),
         Decision::Refused(_) => NO_COMMAND,
-    }
-}
-
-// PRST and FRST put the gauge as opened, in part or whole.
-pub fn is_reset(command: Command) -> bool
-    ensures { λ r. ⌜ r ≡ Spec.isReset command ⌝ }
-{
-    match command {
-        Command::Wrtnac => false,
-        Command::Done => false,
-        Command::Prst => true,
-        Command::Frst => true,
-        Command::Wrtlmd => false,
     }
 }

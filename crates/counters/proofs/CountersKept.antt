@@ -5,7 +5,8 @@ use Prim.Native.Nat.{ℕ, _^_, _<_}
 use native.Mathlib.Omega.{arith}
 use lib.Dec.{eqb}
 use Rattle.command.specs.declared.command.Command.{Command}
-use Rattle.command.specs.declared.command.Command.the-variants.{Wrtnac, Done, Prst, Frst, Wrtlmd}
+use Rattle.command.specs.declared.command.Command.the-variants.{Setting, Reset}
+use Rattle.command.specs.declared.command.Reset.the-variants.{Prst, Frst}
 use Rattle.grains.specs.Grains.{mostDrain}
 use Rattle.sample.specs.declared.current.Current.{Current}
 use Rattle.counters.specs.Counters.{countersAccepted, countersMoved, countersObeyed, countersRested, openedCounters}
@@ -42,11 +43,9 @@ module _ (x : Counters) (f : CountersFit x) where
 
   pub obeyed-fits : (command : Command) → CountersFit (countersObeyed command x)
   unfolding countersObeyed
-  obeyed-fits Wrtnac = f
-  obeyed-fits Done = f
-  obeyed-fits Prst = record { rests = omega arith; cyct = f .cyct; drain = f .drain }
-  obeyed-fits Frst = opened-counters
-  obeyed-fits Wrtlmd = f
+  obeyed-fits (Setting setting) = f
+  obeyed-fits (Reset Prst) = record { rests = omega arith; cyct = f .cyct; drain = f .drain }
+  obeyed-fits (Reset Frst) = opened-counters
 
 -- ---- what 14 asks
 
@@ -66,8 +65,6 @@ module _ (x : Counters) (a : countersAccepted x ≡ true) where
 
   pub obeyed-accepted : (command : Command) → countersAccepted (countersObeyed command x) ≡ true
   unfolding countersAccepted countersObeyed
-  obeyed-accepted Wrtnac = a
-  obeyed-accepted Done = a
-  obeyed-accepted Prst = a
-  obeyed-accepted Frst = opened-accepted
-  obeyed-accepted Wrtlmd = a
+  obeyed-accepted (Setting setting) = a
+  obeyed-accepted (Reset Prst) = a
+  obeyed-accepted (Reset Frst) = opened-accepted

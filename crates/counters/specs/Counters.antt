@@ -4,7 +4,8 @@ use mathlib.Core.Bool.{Bool, cond}
 use Prim.Native.Nat.{ℕ, _+_, min}
 use lib.Dec.{eqb}
 use Rattle.command.specs.declared.command.Command.{Command}
-use Rattle.command.specs.declared.command.Command.the-variants.{Wrtnac, Done, Prst, Frst, Wrtlmd}
+use Rattle.command.specs.declared.command.Command.the-variants.{Setting, Reset}
+use Rattle.command.specs.declared.command.Reset.the-variants.{Prst, Frst}
 use Rattle.sample.specs.declared.current.Current.{Current}
 use Rattle.counters.specs.Cycles.{cyclesAccepted, cyclesMoved, noCycles}
 use Rattle.counters.specs.declared.counters.Counters.{Counters}
@@ -27,11 +28,9 @@ countersMoved lmd c x = record { rests = cond (eqb (c .magnitude) 0) (x .rests) 
 
 -- "or a reset": PRST and FRST; of the cycles, "PRST keeps both and FRST clears both"
 unfoldable pub countersObeyed : Command → Counters → Counters
-countersObeyed Wrtnac x = x
-countersObeyed Done x = x
-countersObeyed Prst x = record { rests = 0; cycles = x .cycles }
-countersObeyed Frst x = openedCounters
-countersObeyed Wrtlmd x = x
+countersObeyed (Setting setting) x = x
+countersObeyed (Reset Prst) x = record { rests = 0; cycles = x .cycles }
+countersObeyed (Reset Frst) x = openedCounters
 
 -- the count of rest windows is every number of its four bytes
 unfoldable pub countersAccepted : Counters → Bool

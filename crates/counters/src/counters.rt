@@ -3,6 +3,7 @@ ghost use mathlib.Core.Path.{_≡_};
 ghost use Rattle.counters.specs.Counters as Spec;
 use crate::cycles::Cycles;
 use command::command::Command;
+use command::command::Reset;
 use sample::current::Current;
 
 // "stops at 4,294,967,295".
@@ -57,14 +58,14 @@ impl Counters {
         let cycles = self.cycles;
         let none = Cycles::none();
         match command {
-            Command::Wrtnac => self,
-            Command::Done => self,
-            Command::Prst => Counters { rests: 0, cycles },
-            Command::Frst => Counters {
-                rests: 0,
-                cycles: none,
+            Command::Setting(_) => self,
+            Command::Reset(reset) => match reset {
+                Reset::Prst => Counters { rests: 0, cycles },
+                Reset::Frst => Counters {
+                    rests: 0,
+                    cycles: none,
+                },
             },
-            Command::Wrtlmd => self,
         }
     }
 

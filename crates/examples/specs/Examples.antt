@@ -3,8 +3,9 @@ use mathlib.Core.Bool.{true, false}
 use mathlib.Core.Path.{_≡_}
 use lib.IntN.{pos, negsuc}
 use Rattle.command.specs.Command.{decide}
-use Rattle.command.specs.declared.command.Command.the-variants.{Wrtnac}
+use Rattle.command.specs.declared.command.Command.the-variants.{Setting}
 use Rattle.command.specs.declared.command.Decision.the-variants.{Obey}
+use Rattle.command.specs.declared.command.Setting.the-variants.{Wrtnac}
 use Rattle.compensation.specs.Compensation.{dcmp}
 use Rattle.configuration.specs.Settings.{openedSettings}
 use Rattle.configuration.specs.BenchPack.{benchPack}
@@ -49,7 +50,7 @@ pub record Examples : Type 0 where
   pub v-3000 : (afterSample lineTwo (negsuc 2_999) (pos 3_000) (pos 1_192)) .flags .edv1 ≡ true
   pub v-3001 : (afterSample lineTwo (negsuc 2_999) (pos 3_001) (pos 1_192)) .flags .edv1 ≡ false
   -- "MODE 0x35 with 0xA9 is WRTNAC"
-  pub mode-35 : decide 0xA9 0x35 0 ≡ Obey Wrtnac
+  pub mode-35 : decide 0xA9 0x35 0 ≡ Obey (Setting Wrtnac)
   -- the bench program's lines: NAC, LMD, RSOC and FLAGS
   pub nac-1 : nac lineOne ≡ 0
   pub lmd-1 : lineOne .charge .lmd ≡ 1_024

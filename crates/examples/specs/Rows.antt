@@ -5,8 +5,10 @@ use Prim.Native.Nat.{ℕ}
 use lib.IntN.{pos}
 use lib.ListN.{set}
 use Rattle.command.specs.Command.{decide}
-use Rattle.command.specs.declared.command.Command.the-variants.{Done, Prst, Frst, Wrtlmd}
+use Rattle.command.specs.declared.command.Command.the-variants.{Setting, Reset}
 use Rattle.command.specs.declared.command.Decision.the-variants.{Obey, Refused}
+use Rattle.command.specs.declared.command.Reset.the-variants.{Prst, Frst}
+use Rattle.command.specs.declared.command.Setting.the-variants.{Done, Wrtlmd}
 use Rattle.compensation.specs.Compensation.{dcmp, dt, minutes}
 use Rattle.configuration.specs.Settings.{openedSettings}
 use Rattle.configuration.specs.Configuration.{dcgn, dcoff, e1, openedMode}
@@ -107,12 +109,12 @@ pub record Rows : Type 0 where
   pub minutes-65536 : minutes 131_072 2 ≡ 65_535
   pub minutes-65534 : minutes 131_069 2 ≡ 65_534
   -- keys: 0x56 obeys WRTLMD with bit 0 alone; 0xA9 obeys the highest of 4, 3 and 1
-  pub key-56 : decide 0x56 0x01 1 ≡ Obey Wrtlmd
+  pub key-56 : decide 0x56 0x01 1 ≡ Obey (Setting Wrtlmd)
   pub key-56-higher : decide 0x56 0x03 1 ≡ Refused 10
   pub key-56-none : decide 0x56 0x44 1 ≡ Refused 9
-  pub key-done : decide 0xA9 0x1B 0 ≡ Obey Done
-  pub key-prst : decide 0xA9 0x0B 0 ≡ Obey Prst
-  pub key-frst : decide 0xA9 0x03 0 ≡ Obey Frst
+  pub key-done : decide 0xA9 0x1B 0 ≡ Obey (Setting Done)
+  pub key-prst : decide 0xA9 0x0B 0 ≡ Obey (Reset Prst)
+  pub key-frst : decide 0xA9 0x03 0 ≡ Obey (Reset Frst)
   -- MODE's bits: PKCFG bit 7 and bits 6 and 2 as opened; the command bits 5, 4, 3, 1, 0 cleared; INIT, bit 2, cleared
   pub mode-opened : openedMode (openedSettings (set benchPack 6 0xFF)) ≡ 0xC4
   pub mode-opened-0 : openedMode (openedSettings benchPack) ≡ 0x44

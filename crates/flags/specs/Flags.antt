@@ -2,7 +2,9 @@
 -- Definitions only; assumes nothing.
 use mathlib.Core.Bool.{Bool, true, false, cond}
 use Rattle.command.specs.declared.command.Command.{Command}
-use Rattle.command.specs.declared.command.Command.the-variants.{Wrtnac, Done, Prst, Frst, Wrtlmd}
+use Rattle.command.specs.declared.command.Command.the-variants.{Setting, Reset}
+use Rattle.command.specs.declared.command.Reset.the-variants.{Prst, Frst}
+use Rattle.command.specs.declared.command.Setting.the-variants.{Wrtnac, Done, Wrtlmd}
 use Rattle.flags.specs.declared.flags.Flags.{Flags}
 
 -- EDV1 and EDVF as given, CI as it was
@@ -31,8 +33,8 @@ atTaught f = record { ci = false; edv1 = true; edvf = f .edvf }
 
 -- DONE: "clearing EDV1 and EDVF too"; "FRST: as opened", "PRST: as opened but .. CI kept"
 unfoldable pub flagsObeyed : Command → Flags → Flags
-flagsObeyed Wrtnac f = f
-flagsObeyed Done f = withVoltages false false f
-flagsObeyed Prst f = openedFlags (f .ci)
-flagsObeyed Frst f = openedFlags true
-flagsObeyed Wrtlmd f = f
+flagsObeyed (Setting Wrtnac) f = f
+flagsObeyed (Setting Done) f = withVoltages false false f
+flagsObeyed (Setting Wrtlmd) f = f
+flagsObeyed (Reset Prst) f = openedFlags (f .ci)
+flagsObeyed (Reset Frst) f = openedFlags true

@@ -2,6 +2,8 @@
 ghost use mathlib.Core.Path.{_≡_};
 ghost use Rattle.flags.specs.Flags as Spec;
 use command::command::Command;
+use command::command::Reset;
+use command::command::Setting;
 
 pub struct Flags {
     pub ci: bool,
@@ -63,11 +65,15 @@ impl Flags {
         ensures { λ r. ⌜ r ≡ Spec.flagsObeyed command self ⌝ }
     {
         match command {
-            Command::Wrtnac => self,
-            Command::Done => Flags::opened(self.ci),
-            Command::Prst => Flags::opened(self.ci),
-            Command::Frst => Flags::opened(true),
-            Command::Wrtlmd => self,
+            Command::Setting(setting) => match setting {
+                Setting::Wrtnac => self,
+                Setting::Done => Flags::opened(self.ci),
+                Setting::Wrtlmd => self,
+            },
+            Command::Reset(reset) => match reset {
+                Reset::Prst => Flags::opened(self.ci),
+                Reset::Frst => Flags::opened(true),
+            },
         }
     }
 }

@@ -1,16 +1,18 @@
 -- A command leaves a gauge that 14 does not refuse, of the widths that every gauge has: each part stays one that is accepted, and WRTLMD is obeyed
 -- only where AR is above 0. Assumes nothing.
-use mathlib.Core.Bool.{Bool, true, false, cond}
+use mathlib.Core.Bool.{true, not, cond}
+use mathlib.Core.List.{List}
 use mathlib.Core.Path.{_≡_, sym, ap, subst, _∙_}
 use Prim.Native.Nat.{ℕ, _<_}
 use native.Mathlib.Omega.{arith}
 use lib.Dec.{eqb}
 use borrow.Author.Tests.{eqb-false, not-true}
-use Rattle.command.specs.Command.{decide, isReset}
+use Rattle.command.specs.Command.{decide}
 use Rattle.command.specs.declared.command.Command.{Command}
-use Rattle.command.specs.declared.command.Command.the-variants.{Wrtlmd}
+use Rattle.command.specs.declared.command.Command.the-variants.{Setting}
 use Rattle.command.specs.declared.command.Decision.{Decision}
 use Rattle.command.specs.declared.command.Decision.the-variants.{Obey, Refused}
+use Rattle.command.specs.declared.command.Setting.the-variants.{Wrtlmd}
 use Rattle.command.proofs.DecisionLaws.{wrtlmd-above}
 use Rattle.configuration.specs.Configuration.{dmf, ilmd, s0}
 use Rattle.configuration.specs.Settings.{settingsAccepted}
@@ -21,10 +23,8 @@ use Rattle.refusals.specs.Refusal as Refusal
 use Rattle.refusals.proofs.OrElseLaws.{not-rejected}
 use Rattle.host.proofs.HostKept.{obeyed-fits}
 use Rattle.reached.proofs.ChargeKept.{command-lmd, command-sound}
-use Rattle.sample.specs.Sample.{sampleReset}
-use Rattle.sample.proofs.SampleKept.{no-sample}
-use Rattle.sample.proofs.SampleLaws.{SampleSound}
-use Rattle.standby.proofs.StandbyKept.{reset-kept}
+use Rattle.sample.proofs.SampleKept.{command-sample}
+use Rattle.standby.proofs.StandbyKept.{obeyed-kept}
 use Rattle.gauge.specs.Accepted.{accepted}
 use Rattle.gauge.specs.Calls.{writeAnswer, writeRefusal, written}
 use Rattle.gauge.specs.Fits.{Taken}
@@ -38,12 +38,7 @@ unfolding settingsAccepted
 opens s e = let n : ilmd s ≡ 0 → ⊥ = eqb-false (ilmd s) 0 (not-true (eqb (ilmd s) 0) e) in omega arith
 
 module _ (g : Gauge) (s : Sound g) where
-  reset-sample : (t : Bool) → SampleSound (dmf (g .settings)) (sampleReset t (g .sample))
-  unfolding sampleReset
-  reset-sample true = no-sample (dmf (g .settings))
-  reset-sample false = s .sample
-
-  pub obeyed-sound : (command : Command) → (command ≡ Wrtlmd → 0 < g .host .ar) → Sound (obeyed command g)
+  pub obeyed-sound : (command : Command) → (command ≡ Setting Wrtlmd → 0 < g .host .ar) → Sound (obeyed command g)
   unfolding obeyed
   obeyed-sound command above =
       let c = g .settings in
@@ -51,18 +46,18 @@ module _ (g : Gauge) (s : Sound g) where
       record {
         settings = s .settings;
         charge = command-sound command (termsOf c) (g .host .ar) (g .charge) (s .charge) (omega arith) above;
-        standby = reset-kept (isReset command) (s0 c) (g .standby) (s .standby);
-        sample = reset-sample (isReset command);
+        standby = obeyed-kept command (s0 c) (g .standby) (s .standby);
+        sample = command-sample command (dmf c) (g .sample) (s .sample);
         counters = Counters.obeyed-accepted (g .counters) (s .counters) command;
       }
 
-  decided-sound : (d : Decision) → (d ≡ Obey Wrtlmd → 0 < g .host .ar) → Sound (decided d g)
+  decided-sound : (d : Decision) → (d ≡ Obey (Setting Wrtlmd) → 0 < g .host .ar) → Sound (decided d g)
   unfolding decided
   decided-sound (Obey command) above = obeyed-sound command (λ e. above (ap Obey e))
   decided-sound (Refused number) above = s
 
 module _ (g : Gauge) (s : Standing g) where
-  obeyed-stands : (command : Command) → (command ≡ Wrtlmd → 0 < g .host .ar) → Standing (obeyed command g)
+  obeyed-stands : (command : Command) → (command ≡ Setting Wrtlmd → 0 < g .host .ar) → Standing (obeyed command g)
   unfolding obeyed
   obeyed-stands command above =
       let c = g .settings in
@@ -76,7 +71,7 @@ module _ (g : Gauge) (s : Standing g) where
         counters = Counters.obeyed-fits (g .counters) (s .counters) command;
       }
 
-  pub decided-stands : (d : Decision) → (d ≡ Obey Wrtlmd → 0 < g .host .ar) → Standing (decided d g)
+  pub decided-stands : (d : Decision) → (d ≡ Obey (Setting Wrtlmd) → 0 < g .host .ar) → Standing (decided d g)
   unfolding decided
   decided-stands (Obey command) above = obeyed-stands command (λ e. above (ap Obey e))
   decided-stands (Refused number) above = s

@@ -3,18 +3,16 @@ ghost use mathlib.Core.Path.{_≡_};
 ghost use Rattle.gauge.specs.Obey as Spec;
 use crate::state::Gauge;
 use command::command::Command;
-use command::command::is_reset;
-use standby::standby::reset_if;
+use standby::standby::standby_obeyed;
 
 impl Gauge {
     pub(crate) fn obeyed(mut self, command: Command) -> Gauge
         ensures { λ r. ⌜ r ≡ Spec.obeyed command self ⌝ }
     {
         let settings = self.settings;
-        let reset = is_reset(command);
         let charge = self.charge.obeyed(command, settings, self.host.ar);
-        let sample = self.sample.reset_if(reset);
-        let standby = reset_if(reset, settings, self.standby);
+        let sample = self.sample.obeyed(command);
+        let standby = standby_obeyed(command, settings, self.standby);
         let flags = self.flags.obeyed(command);
         let host = self.host.obeyed(command, settings);
         let counters = self.counters.obeyed(command);

@@ -9,9 +9,10 @@ use lib.IntN.{ℤ, pos, negsuc}
 use Rattle.charge.specs.Rest.{rested}
 use Rattle.command.specs.Command.{decide}
 use Rattle.command.specs.declared.command.Command.{Command}
-use Rattle.command.specs.declared.command.Command.the-variants.{Wrtnac, Done, Prst, Frst, Wrtlmd}
+use Rattle.command.specs.declared.command.Command.the-variants.{Setting, Reset}
 use Rattle.command.specs.declared.command.Decision.{Decision}
 use Rattle.command.specs.declared.command.Decision.the-variants.{Obey, Refused}
+use Rattle.command.specs.declared.command.Reset.the-variants.{Prst, Frst}
 use Rattle.configuration.specs.Configuration.{dmf, sd}
 use Rattle.configuration.specs.Terms.{Terms, termsOf}
 use Rattle.configuration.specs.declared.settings.Settings.{Settings}
@@ -145,11 +146,9 @@ module _ (g : Gauge) (x : History) (s : Standing g) (f : Beside g x) where
 
   command-settings : (command : Command) → (afterCommand command x) .settings ≡ x .settings
   unfolding afterCommand startedHistory
-  command-settings Wrtnac = refl
-  command-settings Done = refl
-  command-settings Prst = refl
-  command-settings Frst = refl
-  command-settings Wrtlmd = refl
+  command-settings (Setting setting) = refl
+  command-settings (Reset Prst) = refl
+  command-settings (Reset Frst) = refl
 
   obeyed-beside : (command : Command) → Beside (obeyed command g) (withoutCommand (afterCommand command x))
   unfolding obeyed

@@ -10,10 +10,12 @@ use lib.IntN.{pos}
 use Rattle.charge.specs.Charge.{filled, openedCharge, withoutRun}
 use Rattle.charge.specs.Obeyed.{chargeObeyed, writtenLmd, writtenNac}
 use Rattle.charge.specs.declared.charge.Charge.{Charge}
-use Rattle.command.specs.Command.{decide, decide56, decideA9, highestCommandBit}
+use Rattle.command.specs.Command.{decide, highestCommandBit}
 use Rattle.command.specs.declared.command.Command.{Command}
-use Rattle.command.specs.declared.command.Command.the-variants.{Wrtnac, Done, Prst, Frst, Wrtlmd}
-use Rattle.command.specs.declared.command.Decision.the-variants.{Refused}
+use Rattle.command.specs.declared.command.Command.the-variants.{Setting, Reset}
+use Rattle.command.specs.declared.command.Reset.the-variants.{Prst, Frst}
+use Rattle.command.specs.declared.command.Setting.the-variants.{Wrtnac, Done, Wrtlmd}
+use Rattle.command.proofs.DecisionLaws.{bit-decides}
 use Rattle.configuration.specs.Terms.{termsOf}
 use Rattle.configuration.specs.declared.settings.Settings.{Settings}
 use Rattle.grains.specs.Grains.{grainsOfCounts}
@@ -22,7 +24,7 @@ use Rattle.host.specs.declared.host.Host.{Host}
 use Rattle.host.proofs.HostLaws.{commands-cleared-bit, init-cleared-bit}
 use Rattle.numbers.specs.Little.{byteAt}
 use Rattle.numbers.specs.Signed.{atLeastZero}
-use Rattle.refusals.specs.Refusal as Refusal
+use Rattle.history.specs.Account.{afterSetting}
 use Rattle.history.specs.History.{afterCommand, hostAfter, startedHistory, withoutCommand}
 use Rattle.history.specs.Kept.{History}
 use Rattle.history.specs.Sums.{chargeOf, grainsACount}
@@ -32,21 +34,18 @@ use Rattle.history.proofs.Tracking.{Tracks, fixed-is}
 
 pub command-tracks : (command : Command) (c : Settings) (ar : ℕ) (y : Charge) (x : History) → Tracks y (x .account)
     → x .settings ≡ c → ar ≡ x .host .ar → Tracks (chargeObeyed command (termsOf c) ar y) ((afterCommand command x) .account)
-unfolding chargeObeyed afterCommand writtenNac writtenLmd withoutRun filled openedCharge startedHistory
-command-tracks Wrtnac c ar y x k p e =
+unfolding chargeObeyed afterCommand afterSetting writtenNac writtenLmd withoutRun filled openedCharge startedHistory
+command-tracks (Setting Wrtnac) c ar y x k p e =
     let l = k .lmd in
     let f : min (x .host .ar) (x .account .learned) * grainsACount ≡ min (grainsOfCounts ar) (grainsOfCounts (y .lmd)) = omega arith in
     record { held = fixed-is (min (x .host .ar) (x .account .learned) * grainsACount) ∙ ap pos f; lmd = k .lmd; run = refl }
-command-tracks Done c ar y x k p e =
+command-tracks (Setting Done) c ar y x k p e =
     record {
       held = fixed-is (x .account .learned * grainsACount) ∙ ap (λ (l : ℕ). pos (l * grainsACount)) (sym (k .lmd));
       lmd = k .lmd;
       run = refl;
     }
-command-tracks Prst c ar y x k p e = record { held = k .held; lmd = k .lmd; run = refl }
-command-tracks Frst c ar y x k p e =
-    record { held = fixed-is 0; lmd = ap (λ (d : Settings). (termsOf d) .capacity) (sym p); run = refl }
-command-tracks Wrtlmd c ar y x k p e =
+command-tracks (Setting Wrtlmd) c ar y x k p e =
     let n : atLeastZero (chargeOf (x .account .sums)) ≡ y .held = ap atLeastZero (k .held) in
     let f : min (atLeastZero (chargeOf (x .account .sums))) (x .host .ar * grainsACount) ≡ min (y .held) (grainsOfCounts ar) = omega arith in
     record {
@@ -54,6 +53,9 @@ command-tracks Wrtlmd c ar y x k p e =
       lmd = e;
       run = refl;
     }
+command-tracks (Reset Prst) c ar y x k p e = record { held = k .held; lmd = k .lmd; run = refl }
+command-tracks (Reset Frst) c ar y x k p e =
+    record { held = fixed-is 0; lmd = ap (λ (d : Settings). (termsOf d) .capacity) (sym p); run = refl }
 
 -- ---- MODE and AR
 
@@ -63,10 +65,7 @@ pub record HostTracks (h k : Host) : Type 0 where
   pub ar : h .ar ≡ k .ar
 
 pub host-decides : (key : ℕ) (h k : Host) → HostTracks h k → decide key (h .mode) (h .ar) ≡ decide key (k .mode) (k .ar)
-unfolding decide
-host-decides key h k t =
-    ap (λ (bit : ℕ). cond (eqb key 0xA9) (decideA9 bit) (cond (eqb key 0x56) (decide56 (h .ar) bit) (Refused Refusal.unknownKey))) (t .mode)
-    ∙ ap (λ (a : ℕ). decide key (k .mode) a) (t .ar)
+host-decides key h k t = bit-decides key (h .mode) (h .ar) (k .mode) (t .mode) ∙ ap (λ (a : ℕ). decide key (k .mode) a) (t .ar)
 
 pub full-host : (t : Bool) (h k : Host) → HostTracks h k → HostTracks (fullIf t h) k
 unfolding fullIf
@@ -100,11 +99,11 @@ stored-host address value h k w t = go (eqb address 1) (eqb address 2)
 obeyed-ar : (command : Command) (c : Settings) (h : Host) (x : History) → h .ar ≡ x .host .ar
     → (hostObeyed command (termsOf c) h) .ar ≡ (afterCommand command x) .host .ar
 unfolding hostObeyed commanded fullIf openedHost afterCommand startedHistory
-obeyed-ar Wrtnac c h x e = e
-obeyed-ar Done c h x e = e
-obeyed-ar Prst c h x e = refl
-obeyed-ar Frst c h x e = refl
-obeyed-ar Wrtlmd c h x e = e
+obeyed-ar (Setting Wrtnac) c h x e = e
+obeyed-ar (Setting Done) c h x e = e
+obeyed-ar (Setting Wrtlmd) c h x e = e
+obeyed-ar (Reset Prst) c h x e = refl
+obeyed-ar (Reset Frst) c h x e = refl
 
 obeyed-mode : (command : Command) (c : Settings) (h : Host) (m : ℕ)
     → highestCommandBit ((hostObeyed command (termsOf c) h) .mode) ≡ highestCommandBit (commandsCleared m)

@@ -8,7 +8,8 @@ use lib.Dec.{eqb, leb, ltb}
 use lib.IntN.{ℤ, pos, negsuc}
 use borrow.Author.Tests.{le-ltb, leb-true, leb-false, lt-ltb}
 use Rattle.command.specs.declared.command.Command.{Command}
-use Rattle.command.specs.declared.command.Command.the-variants.{Wrtnac, Done, Prst, Frst, Wrtlmd}
+use Rattle.command.specs.declared.command.Command.the-variants.{Setting, Reset}
+use Rattle.command.specs.declared.command.Reset.the-variants.{Prst, Frst}
 use Rattle.counters.specs.Counters.{countersMoved, countersObeyed, countersRested, openedCounters}
 use Rattle.counters.specs.Cycles.{cyclesMoved, cyctAfter, drainWith, noCycles}
 use Rattle.counters.specs.Fits.{CountersFit}
@@ -95,8 +96,6 @@ module _ (y : Counters) (x : Counts) (k : CountTracks y x) where
 pub command-counts : (command : Command) (y : Counters) (x : History) → CountTracks y (x .counts)
     → CountTracks (countersObeyed command y) ((afterCommand command x) .counts)
 unfolding countersObeyed openedCounters noCycles afterCommand startedHistory
-command-counts Wrtnac y x k = k
-command-counts Done y x k = k
-command-counts Prst y x k = record { rests = refl; cycles = k .cycles; drain = k .drain }
-command-counts Frst y x k = record { rests = refl; cycles = refl; drain = refl }
-command-counts Wrtlmd y x k = k
+command-counts (Setting setting) y x k = k
+command-counts (Reset Prst) y x k = record { rests = refl; cycles = k .cycles; drain = k .drain }
+command-counts (Reset Frst) y x k = record { rests = refl; cycles = refl; drain = refl }

@@ -1,10 +1,12 @@
--- What the history of demand 3 in paper 01 ("Fixing points of demand 3 ..") keeps of the cell, and what a window and a rest make of it. It
+-- What the history of demand 3 in paper 01 ("Fixing points of demand 3 ..") keeps of the cell, and what a window, a rest and a setting make of it. It
 -- shares the leak table, the meanings of the configuration and the learn rule. Definitions only; assumes nothing.
 use mathlib.Core.Bool.{Bool, cond}
 use mathlib.Core.Option.{Option, none, some}
-use Prim.Native.Nat.{ℕ, zero, suc, _+_, _*_, _/_}
+use Prim.Native.Nat.{ℕ, zero, suc, _+_, _*_, _/_, min}
 use lib.IntN.{ℤ, pos}
 use lib.Signed.{ltZ}
+use Rattle.command.specs.declared.command.Setting.{Setting}
+use Rattle.command.specs.declared.command.Setting.the-variants.{Wrtnac, Done, Wrtlmd}
 use Rattle.configuration.specs.Terms.{Terms}
 use Rattle.grains.specs.Leak.{leakRate}
 use Rattle.grains.specs.Learning.{learned}
@@ -87,3 +89,12 @@ afterRestWindow terms t x =
 unfoldable pub afterRest : Terms → ℕ → ℤ → Account → Account
 afterRest terms zero t x = x
 afterRest terms (suc n) t x = afterRest terms n t (afterRestWindow terms t x)
+
+-- ---- "Host write"
+
+-- "WRTNAC fixes H at min(AR, L) × G; WRTLMD sets L to AR and fixes H at min(H, L × G); both end a run. DONE fixes H at L × G and starts
+-- a run with R 0."
+unfoldable pub afterSetting : Setting → ℕ → Account → Account
+afterSetting Wrtnac ar x = fixing (min ar (x .learned) * grainsACount) (x .learned) none
+afterSetting Done ar x = fixing (x .learned * grainsACount) (x .learned) (some 0)
+afterSetting Wrtlmd ar x = fixing (min (atLeastZero (chargeOf (x .sums))) (ar * grainsACount)) ar none

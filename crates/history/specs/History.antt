@@ -3,27 +3,26 @@
 -- window and a rest share (`Account`). Definitions only; assumes nothing.
 use mathlib.Core.Bool.{cond}
 use mathlib.Core.List.{List, [], _∷_}
-use mathlib.Core.Option.{none, some}
-use Prim.Native.Nat.{ℕ, _+_, _*_, _/_, _%_, min}
+use mathlib.Core.Option.{none}
+use Prim.Native.Nat.{ℕ, _+_, _*_, _/_, _%_}
 use lib.Dec.{eqb}
 use Rattle.command.specs.Command.{decide}
 use Rattle.command.specs.declared.command.Command.{Command}
-use Rattle.command.specs.declared.command.Command.the-variants.{Wrtnac, Done, Prst, Frst, Wrtlmd}
+use Rattle.command.specs.declared.command.Command.the-variants.{Setting, Reset}
 use Rattle.command.specs.declared.command.Decision.{Decision}
 use Rattle.command.specs.declared.command.Decision.the-variants.{Obey, Refused}
 use Rattle.configuration.specs.Settings.{openedSettings}
+use Rattle.command.specs.declared.command.Reset.the-variants.{Prst, Frst}
 use Rattle.configuration.specs.Terms.{termsOf}
 use Rattle.configuration.specs.declared.settings.Settings.{Settings}
 use Rattle.host.specs.Host.{commandsCleared}
 use Rattle.host.specs.declared.host.Host.{Host}
-use Rattle.numbers.specs.Signed.{atLeastZero}
 use Rattle.refusals.specs.Refusal as Refusal
-use Rattle.history.specs.Account.{afterRest, afterWindow, fixing, withRun}
+use Rattle.history.specs.Account.{afterRest, afterSetting, afterWindow, fixing, withRun}
 use Rattle.history.specs.Call.{Call, window, rest, write, read, preview, estimate}
 use Rattle.history.specs.Counts.{countsAfterPrst, countsAfterRest, countsAfterWindow, noCounts}
 use Rattle.history.specs.Kept.{History, withAccount, withCounts, withHost}
 use Rattle.history.specs.Refused.{refusalOf}
-use Rattle.history.specs.Sums.{chargeOf, grainsACount}
 use Rattle.history.specs.Tests.{countedCurrent}
 
 -- "It starts with P, Q and K 0, L the design capacity, no run, MODE and AR as opened."; nothing is counted yet
@@ -49,18 +48,13 @@ hostAfter address value host =
     (cond (eqb address 2) (record { mode = host .mode; ar = value + 256 * (host .ar / 256) })
     (record { mode = host .mode; ar = host .ar % 256 + 256 * value }))
 
--- "WRTNAC fixes H at min(AR, L) × G; WRTLMD sets L to AR and fixes H at min(H, L × G); both end a run. DONE fixes H at L × G and starts
--- a run with R 0. FRST starts the history anew. PRST ends a run and puts MODE and AR as opened." Either reset clears the count of rest windows;
--- "PRST keeps both and FRST clears both", cycles and drain (A5 of paper 02).
+-- A setting moves the account alone. "FRST starts the history anew. PRST ends a run and puts MODE and AR as opened." Either reset clears the count of
+-- rest windows; "PRST keeps both and FRST clears both", cycles and drain (A5 of paper 02).
 unfoldable pub afterCommand : Command → History → History
-afterCommand Wrtnac x =
-    withAccount (fixing (min (x .host .ar) (x .account .learned) * grainsACount) (x .account .learned) none) x
-afterCommand Done x = withAccount (fixing (x .account .learned * grainsACount) (x .account .learned) (some 0)) x
-afterCommand Prst x =
+afterCommand (Setting setting) x = withAccount (afterSetting setting (x .host .ar) (x .account)) x
+afterCommand (Reset Prst) x =
     withCounts (countsAfterPrst (x .counts)) (withHost ((startedHistory (x .settings)) .host) (withAccount (withRun none (x .account)) x))
-afterCommand Frst x = startedHistory (x .settings)
-afterCommand Wrtlmd x =
-    withAccount (fixing (min (atLeastZero (chargeOf (x .account .sums))) (x .host .ar * grainsACount)) (x .host .ar) none) x
+afterCommand (Reset Frst) x = startedHistory (x .settings)
 
 -- "After each command the five MODE bits are cleared."
 abbrev pub withoutCommand : History → History

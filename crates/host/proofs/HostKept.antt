@@ -4,7 +4,8 @@ use Prim.Native.Nat.{ℕ, _+_, _*_, _<_, _≤_}
 use native.Mathlib.Omega.{arith}
 use lib.Dec.{eqb}
 use Rattle.command.specs.declared.command.Command.{Command}
-use Rattle.command.specs.declared.command.Command.the-variants.{Wrtnac, Done, Prst, Frst, Wrtlmd}
+use Rattle.command.specs.declared.command.Command.the-variants.{Setting, Reset}
+use Rattle.command.specs.declared.command.Setting.the-variants.{Wrtnac, Done, Wrtlmd}
 use Rattle.configuration.specs.Configuration.{pkcfg}
 use Rattle.configuration.specs.Terms.{termsOf}
 use Rattle.configuration.specs.declared.settings.Settings.{Settings}
@@ -72,8 +73,7 @@ stored-fits address value h small f = go (eqb address 1) (eqb address 2)
 
 pub obeyed-fits : (command : Command) (s : Settings) (h : Host) → HostFits h → HostFits (hostObeyed command (termsOf s) h)
 unfolding hostObeyed commanded openedHost fullIf
-obeyed-fits Wrtnac s h f = record { mode = commands-cleared-fits _; ar = f .ar }
-obeyed-fits Done s h f = record { mode = commands-cleared-fits _; ar = f .ar }
-obeyed-fits Prst s h f = record { mode = commands-cleared-fits _; ar = omega arith }
-obeyed-fits Frst s h f = record { mode = commands-cleared-fits _; ar = omega arith }
-obeyed-fits Wrtlmd s h f = record { mode = commands-cleared-fits _; ar = f .ar }
+obeyed-fits (Setting Wrtnac) c h f = record { mode = commands-cleared-fits _; ar = f .ar }
+obeyed-fits (Setting Done) c h f = record { mode = commands-cleared-fits _; ar = f .ar }
+obeyed-fits (Setting Wrtlmd) c h f = record { mode = commands-cleared-fits _; ar = f .ar }
+obeyed-fits (Reset reset) c h f = record { mode = commands-cleared-fits _; ar = omega arith }

@@ -4,7 +4,8 @@ use mathlib.Core.List.{[], _∷_}
 use Prim.Native.Nat.{ℕ, _+_, _*_}
 use lib.Dec.{eqb}
 use Rattle.command.specs.declared.command.Command.{Command}
-use Rattle.command.specs.declared.command.Command.the-variants.{Wrtnac, Done, Prst, Frst, Wrtlmd}
+use Rattle.command.specs.declared.command.Command.the-variants.{Setting, Reset}
+use Rattle.command.specs.declared.command.Setting.the-variants.{Wrtnac, Done, Wrtlmd}
 use Rattle.configuration.specs.Terms.{Terms}
 use Rattle.numbers.specs.Bits.{keepingBits}
 use Rattle.numbers.specs.Little.{byteAt}
@@ -35,11 +36,10 @@ fullIf full x = record { mode = cond full (initCleared (x .mode)) (x .mode); ar 
 
 -- MODE and AR before the command bits are cleared; DONE, as full: "INIT cleared"; "PRST", "FRST": as opened
 unfoldable pub commanded : Command → Terms → Host → Host
-commanded Wrtnac terms x = x
-commanded Done terms x = fullIf true x
-commanded Prst terms x = openedHost terms
-commanded Frst terms x = openedHost terms
-commanded Wrtlmd terms x = x
+commanded (Setting Wrtnac) terms x = x
+commanded (Setting Done) terms x = fullIf true x
+commanded (Setting Wrtlmd) terms x = x
+commanded (Reset reset) terms x = openedHost terms
 
 unfoldable pub hostObeyed : Command → Terms → Host → Host
 hostObeyed command terms x =

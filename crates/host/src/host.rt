@@ -3,6 +3,7 @@ ghost use mathlib.Core.Path.{_≡_};
 ghost use Rattle.configuration.specs.Terms.{termsOf};
 ghost use Rattle.host.specs.Host as Spec;
 use command::command::Command;
+use command::command::Setting;
 use configuration::configuration::opened_mode;
 use configuration::settings::Settings;
 use numbers::little::pair_of;
@@ -66,11 +67,12 @@ impl Host {
         ensures { λ r. ⌜ r ≡ Spec.commanded command (termsOf settings) self ⌝ }
     {
         match command {
-            Command::Wrtnac => self,
-            Command::Done => self.full_if(true),
-            Command::Prst => Host::opened(settings),
-            Command::Frst => Host::opened(settings),
-            Command::Wrtlmd => self,
+            Command::Setting(setting) => match setting {
+                Setting::Wrtnac => self,
+                Setting::Done => self.full_if(true),
+                Setting::Wrtlmd => self,
+            },
+            Command::Reset(_) => Host::opened(settings),
         }
     }
 

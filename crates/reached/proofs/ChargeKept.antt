@@ -12,7 +12,9 @@ use Rattle.charge.specs.Rest.{rested, restedOnce}
 use Rattle.charge.specs.declared.charge.Charge.{Charge}
 use Rattle.charge.proofs.ChargeLaws.{ChargeSound, RunSound, stop-is-difference}
 use Rattle.command.specs.declared.command.Command.{Command}
-use Rattle.command.specs.declared.command.Command.the-variants.{Wrtnac, Done, Prst, Frst, Wrtlmd}
+use Rattle.command.specs.declared.command.Command.the-variants.{Setting, Reset}
+use Rattle.command.specs.declared.command.Reset.the-variants.{Prst, Frst}
+use Rattle.command.specs.declared.command.Setting.the-variants.{Wrtnac, Done, Wrtlmd}
 use Rattle.configuration.specs.Terms.{Terms}
 use Rattle.grains.specs.Grains.{grainsOfCounts, grainsOfCurrent}
 use Rattle.grains.specs.Leak.{leak, leakRate}
@@ -199,20 +201,20 @@ unfolding openedCharge
 opened-bounded terms p q = record { sound = record { learned = p; within = omega arith; run = none-sound }; lmd = q }
 
 -- what acceptance asks of a charge, whatever the widths
-pub command-sound : (command : Command) (terms : Terms) (ar : ℕ) (y : Charge) → ChargeSound y → 0 < terms .capacity → (command ≡ Wrtlmd → 0 < ar)
+pub command-sound : (command : Command) (terms : Terms) (ar : ℕ) (y : Charge) → ChargeSound y → 0 < terms .capacity → (command ≡ Setting Wrtlmd → 0 < ar)
     → ChargeSound (chargeObeyed command terms ar y)
 unfolding chargeObeyed writtenNac writtenLmd withoutRun filled openedCharge
-command-sound Wrtnac terms ar y s p above = record { learned = s .learned; within = omega arith; run = none-sound }
-command-sound Done terms ar y s p above = record { learned = s .learned; within = omega arith; run = started-sound }
-command-sound Prst terms ar y s p above = record { learned = s .learned; within = s .within; run = none-sound }
-command-sound Frst terms ar y s p above = record { learned = p; within = omega arith; run = none-sound }
-command-sound Wrtlmd terms ar y s p above = record { learned = above refl; within = omega arith; run = none-sound }
+command-sound (Setting Wrtnac) terms ar y s p above = record { learned = s .learned; within = omega arith; run = none-sound }
+command-sound (Setting Done) terms ar y s p above = record { learned = s .learned; within = omega arith; run = started-sound }
+command-sound (Setting Wrtlmd) terms ar y s p above = record { learned = above refl; within = omega arith; run = none-sound }
+command-sound (Reset Prst) terms ar y s p above = record { learned = s .learned; within = s .within; run = none-sound }
+command-sound (Reset Frst) terms ar y s p above = record { learned = p; within = omega arith; run = none-sound }
 
 pub command-lmd : (command : Command) (terms : Terms) (ar : ℕ) (y : Charge) → y .lmd ≤ 65_535 → terms .capacity ≤ 65_535 → ar ≤ 65_535
     → (chargeObeyed command terms ar y) .lmd ≤ 65_535
 unfolding chargeObeyed writtenNac writtenLmd withoutRun filled openedCharge
-command-lmd Wrtnac terms ar y m q w = m
-command-lmd Done terms ar y m q w = m
-command-lmd Prst terms ar y m q w = m
-command-lmd Frst terms ar y m q w = q
-command-lmd Wrtlmd terms ar y m q w = w
+command-lmd (Setting Wrtnac) terms ar y m q w = m
+command-lmd (Setting Done) terms ar y m q w = m
+command-lmd (Setting Wrtlmd) terms ar y m q w = w
+command-lmd (Reset Prst) terms ar y m q w = m
+command-lmd (Reset Frst) terms ar y m q w = q

@@ -1,4 +1,4 @@
--- The sample that a window or a rest leaves is one that 14 does not refuse: its values are in range, and the counted current is 0 or beyond
+-- The sample that a window, a rest or a command leaves is one that 14 does not refuse: its values are in range, and the counted current is 0 or beyond
 -- DMF. Assumes nothing.
 use mathlib.Core.Bool.{Bool, true, false, not, _&&_, _||_, cond}
 use mathlib.Core.Path.{_≡_, refl}
@@ -9,10 +9,12 @@ use lib.IntN.{ℤ}
 use borrow.Author.Tests.{leb-true, leb-false, lt-ltb, ne-eqb, eqb-true}
 use Rattle.numbers.specs.Signed.{magnitude, negative}
 use Rattle.numbers.proofs.BoolLaws.{and-right}
+use Rattle.command.specs.declared.command.Command.{Command}
+use Rattle.command.specs.declared.command.Command.the-variants.{Setting, Reset}
 use Rattle.sample.specs.Current.{counted, noCurrent}
 use Rattle.sample.specs.Limits.{leastTemperature, leastVoltage, mostCurrent, mostTemperature, mostVoltage, within, zeroOrWithin}
 use Rattle.sample.specs.Range.{between, current, currentInRange, currentOf, temperature, temperatureInRange, valueBetween, voltage, voltageInRange}
-use Rattle.sample.specs.Sample.{currentAccepted, noSample, sampleRested}
+use Rattle.sample.specs.Sample.{currentAccepted, noSample, sampleObeyed, sampleRested}
 use Rattle.sample.specs.declared.current.Current.{Current}
 use Rattle.sample.specs.declared.sample.Sample.{Sample}
 use Rattle.sample.proofs.SampleLaws.{SampleSound}
@@ -70,6 +72,11 @@ rest-sample limit s t k r =
 pub no-sample : (limit : ℕ) → SampleSound limit noSample
 unfolding noSample currentAccepted zeroOrWithin
 no-sample limit = record { current = refl; voltage = refl; temperature = refl }
+
+pub command-sample : (command : Command) (limit : ℕ) (s : Sample) → SampleSound limit s → SampleSound limit (sampleObeyed command s)
+unfolding sampleObeyed
+command-sample (Setting setting) limit s k = k
+command-sample (Reset reset) limit s k = no-sample limit
 
 -- ---- its widths
 

@@ -2,6 +2,8 @@
 use mathlib.Core.Bool.{Bool, not, _&&_, cond}
 use Prim.Native.Nat.{ℕ}
 use lib.Dec.{eqb, leb, ltb}
+use Rattle.command.specs.declared.command.Command.{Command}
+use Rattle.command.specs.declared.command.Command.the-variants.{Setting, Reset}
 use Rattle.sample.specs.Current.{noCurrent}
 use Rattle.sample.specs.Limits.{leastTemperature, leastVoltage, mostCurrent, mostTemperature, mostVoltage, zeroOrWithin}
 use Rattle.sample.specs.declared.current.Current.{Current}
@@ -12,8 +14,9 @@ unfoldable pub noSample : Sample
 noSample = record { current = noCurrent; voltage = 0; temperature = 0 }
 
 -- FRST and PRST: "as opened"
-unfoldable pub sampleReset : Bool → Sample → Sample
-sampleReset reset s = cond reset noSample s
+unfoldable pub sampleObeyed : Command → Sample → Sample
+sampleObeyed (Setting setting) s = s
+sampleObeyed (Reset reset) s = noSample
 
 -- a rest: "TEMP = t, c and IAV 0, CHGS cleared .. VOLT and all else stay"
 unfoldable pub sampleRested : ℕ → Sample → Sample

@@ -8,6 +8,7 @@ use crate::limits::LEAST_VOLTAGE;
 use crate::limits::MOST_CURRENT;
 use crate::limits::MOST_TEMPERATURE;
 use crate::limits::MOST_VOLTAGE;
+use command::command::Command;
 
 pub struct Sample {
     // c by direction, CHGS, and magnitude, IAV
@@ -58,14 +59,14 @@ impl Sample {
         }
     }
 
-    // As opened, where a command resets.
-    pub fn reset_if(self, reset: bool) -> Sample
-        ensures { λ r. ⌜ r ≡ Spec.sampleReset reset self ⌝ }
+    // Settings leave the sample; resets put it as opened.
+    pub fn obeyed(self, command: Command) -> Sample
+        ensures { λ r. ⌜ r ≡ Spec.sampleObeyed command self ⌝ }
     {
-        if reset {
-            return Sample::none();
+        match command {
+            Command::Setting(_) => self,
+            Command::Reset(_) => Sample::none(),
         }
-        self
     }
 
     // No current flows in a rest; VOLT stays.

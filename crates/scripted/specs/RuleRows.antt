@@ -10,8 +10,9 @@ use Rattle.charge.specs.Charge.{emptyStop}
 use Rattle.charge.specs.Step.{leakedAtOnce}
 use Rattle.charge.specs.declared.charge.Charge.{Charge}
 use Rattle.command.specs.Command.{commandOf, highestCommandBit}
-use Rattle.command.specs.declared.command.Command.the-variants.{Prst}
+use Rattle.command.specs.declared.command.Command.the-variants.{Reset}
 use Rattle.command.specs.declared.command.Decision.the-variants as Decision
+use Rattle.command.specs.declared.command.Reset.the-variants.{Prst}
 use Rattle.compensation.specs.Unaged.{dcmpUnaged}
 use Rattle.configuration.specs.Settings.{openedSettings}
 use Rattle.configuration.specs.declared.settings.Settings.{Settings}
@@ -129,7 +130,7 @@ pub record RuleRows : Type 0 where
   -- from CI alone
   pub edv1-alone : atEdv1 (record { ci = true; edv1 = false; edvf = false }) ≡ record { ci = true; edv1 = true; edvf = false }
   pub taught-alone : atTaught (record { ci = true; edv1 = false; edvf = false }) ≡ record { ci = false; edv1 = true; edvf = false }
-  pub prst-alone : flagsObeyed Prst (record { ci = true; edv1 = false; edvf = false }) ≡ record { ci = true; edv1 = false; edvf = false }
+  pub prst-alone : flagsObeyed (Reset Prst) (record { ci = true; edv1 = false; edvf = false }) ≡ record { ci = true; edv1 = false; edvf = false }
   -- MODE, AR's low byte and its high one, each beside the others
   pub store-mode : stored 1 0x55 (record { mode = 0xDA; ar = 0x1278 }) ≡ record { mode = 0x55; ar = 0x1278 }
   pub store-low : stored 2 0x34 (record { mode = 0xDA; ar = 0x1278 }) ≡ record { mode = 0xDA; ar = 0x1234 }

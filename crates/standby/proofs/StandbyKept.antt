@@ -1,4 +1,4 @@
--- The standby current that a window or a reset leaves is one that 14 does not refuse: fifteen sixteenths of 32 × S0 are 30 × S0, and a light
+-- The standby current that a window or a command leaves is one that 14 does not refuse: fifteen sixteenths of 32 × S0 are 30 × S0, and a light
 -- load adds at most 2 × S0. Assumes nothing.
 use mathlib.Core.Bool.{Bool, true, false, not, _&&_, cond}
 use mathlib.Core.Path.{_≡_, refl}
@@ -6,7 +6,9 @@ use Prim.Native.Nat.{ℕ, _+_, _*_, _/_, _≤_}
 use native.Mathlib.Omega.{arith}
 use lib.Dec.{eqb, leb}
 use borrow.Author.Tests.{leb-true, le-leb}
-use Rattle.standby.specs.Standby.{averaged, openedStandby, standbyAccepted, standbyReset}
+use Rattle.command.specs.declared.command.Command.{Command}
+use Rattle.command.specs.declared.command.Command.the-variants.{Setting, Reset}
+use Rattle.standby.specs.Standby.{averaged, openedStandby, standbyAccepted, standbyObeyed}
 
 pub averaged-kept : (s0 si iav : ℕ) → standbyAccepted s0 si ≡ true → standbyAccepted s0 (averaged s0 si iav) ≡ true
 unfolding averaged standbyAccepted
@@ -27,7 +29,7 @@ pub opened-standby : (s0 : ℕ) → standbyAccepted s0 (openedStandby s0) ≡ tr
 unfolding standbyAccepted
 opened-standby s0 = le-leb (openedStandby s0) (32 * s0) (omega arith)
 
-pub reset-kept : (reset : Bool) (s0 si : ℕ) → standbyAccepted s0 si ≡ true → standbyAccepted s0 (standbyReset reset s0 si) ≡ true
-unfolding standbyReset
-reset-kept true s0 si e = opened-standby s0
-reset-kept false s0 si e = e
+pub obeyed-kept : (command : Command) (s0 si : ℕ) → standbyAccepted s0 si ≡ true → standbyAccepted s0 (standbyObeyed command s0 si) ≡ true
+unfolding standbyObeyed
+obeyed-kept (Setting setting) s0 si e = e
+obeyed-kept (Reset reset) s0 si e = opened-standby s0

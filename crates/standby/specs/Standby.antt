@@ -3,6 +3,8 @@
 use mathlib.Core.Bool.{Bool, not, _&&_, cond}
 use Prim.Native.Nat.{ℕ, _+_, _*_, _/_}
 use lib.Dec.{eqb, leb}
+use Rattle.command.specs.declared.command.Command.{Command}
+use Rattle.command.specs.declared.command.Command.the-variants.{Setting, Reset}
 
 -- a current in units, as sixteenths
 abbrev pub sixteenths : ℕ → ℕ
@@ -13,8 +15,9 @@ abbrev pub openedStandby : ℕ → ℕ
 openedStandby s0 = sixteenths s0
 
 -- FRST and PRST: "as opened"
-unfoldable pub standbyReset : Bool → ℕ → ℕ → ℕ
-standbyReset reset s0 si = cond reset (openedStandby s0) si
+unfoldable pub standbyObeyed : Command → ℕ → ℕ → ℕ
+standbyObeyed (Setting setting) s0 si = si
+standbyObeyed (Reset reset) s0 si = openedStandby s0
 
 -- a load that is no more than standby: "c < 0 and IAV ≤ 2 × S0"; the discharge is |c| where c < 0, else 0
 abbrev pub isLight : ℕ → ℕ → Bool

@@ -2,6 +2,7 @@
 ghost use mathlib.Core.Path.{_≡_};
 ghost use Rattle.configuration.specs.Terms.{termsOf};
 ghost use Rattle.standby.specs.Standby as Spec;
+use command::command::Command;
 use configuration::configuration::s0;
 use configuration::settings::Settings;
 
@@ -12,14 +13,14 @@ pub fn opened_standby(settings: Settings) -> u16
     16 * s0(settings)
 }
 
-// As opened, where a command resets.
-pub fn reset_if(reset: bool, settings: Settings, standby: u16) -> u16
-    ensures { λ r. ⌜ r ≡ Spec.standbyReset reset ((termsOf settings) .s0) standby ⌝ }
+// Settings leave it; resets put it as opened.
+pub fn standby_obeyed(command: Command, settings: Settings, standby: u16) -> u16
+    ensures { λ r. ⌜ r ≡ Spec.standbyObeyed command ((termsOf settings) .s0) standby ⌝ }
 {
-    if reset {
-        return opened_standby(settings);
+    match command {
+        Command::Setting(_) => standby,
+        Command::Reset(_) => opened_standby(settings),
     }
-    standby
 }
 
 // Averaged over light loads.

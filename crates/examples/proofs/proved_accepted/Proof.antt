@@ -20,9 +20,9 @@ use Rattle.examples.proofs.proved_accepted.Statement.{statement}
 use Rattle.examples.proofs.proved_accepted.Tie as tie
 
 returns : tie.Need-returns
-unfolding chargeAccepted openedCharge openedMode countersAccepted openedCounters cyclesAccepted noCycles flagsFit flagsOf currentOf settingsAccepted accepted
-    openAnswer openRefusal opened runAccepted openedHost loadAnswer acceptedAnswer answerIn formFits loaded loadedCharge loadedCounters loadedHost
-    loadedSample rejectedAnswer zeroOrWithin currentAccepted noSample sampleAccepted standbyAccepted
+unfolding chargeAccepted openedCharge openedMode settingsAccepted countersAccepted openedCounters cyclesAccepted noCycles flagsFit flagsOf currentOf
+    accepted openAnswer openRefusal opened runAccepted openedHost loadAnswer acceptedAnswer answerIn formFits loaded loadedCharge loadedCounters
+    loadedHost loadedSample rejectedAnswer zeroOrWithin currentAccepted noSample sampleAccepted standbyAccepted
 returns c =
     record {
       lower-met = refl;

@@ -3,13 +3,14 @@ use mathlib.Core.Path.{refl}
 use Rattle.charge.specs.Charge.{chargeAccepted, emptied, filled, heldMoved, leaked, moved, openedCharge, runMoved, taught, withoutRun}
 use Rattle.charge.specs.Obeyed.{chargeObeyed, writtenLmd, writtenNac}
 use Rattle.charge.specs.Rest.{rested, restedOnce}
-use Rattle.command.specs.Command.{decide, decide56, decideA9, highestCommandBit, isReset}
+use Rattle.command.specs.Command.{decide, decideBy, highestCommandBit}
 use Rattle.compensation.specs.Compensation.{adcgn, dcmp, dt, minutes, offsetTerm, rateTerm}
 use Rattle.configuration.specs.Configuration.{dcompTaken, openedMode}
 use Rattle.configuration.specs.Settings.{settingsAccepted}
 use Rattle.counters.specs.Counters.{countersAccepted, countersMoved, countersObeyed, countersRested, openedCounters}
 use Rattle.counters.specs.Cycles.{cyclesAccepted, cyclesMoved, cyctAfter, drainWith, noCycles}
-use Rattle.flags.specs.Flags.{atTaught, clearedIf, flagsObeyed}
+use Rattle.flags.specs.Byte.{flagsByte}
+use Rattle.flags.specs.Flags.{atEdv1, atEdvf, atTaught, clearedIf, flagsObeyed}
 use Rattle.gauge.specs.Accepted.{accepted}
 use Rattle.gauge.specs.Calls.{restAnswer, storedAt, windowAnswer, writeAnswer, writeRefusal, written}
 use Rattle.gauge.specs.Obey.{decided, obeyed}
@@ -25,26 +26,25 @@ use Rattle.reached.specs.Ending.{endingOf, mayTeach}
 use Rattle.reached.specs.Full.{isFull}
 use Rattle.reached.specs.Reached.{chargeEnded, chargeReached, filledIf, flagsEnded, reachedBy}
 use Rattle.registers.specs.Map.{lookUp, register, rows}
-use Rattle.registers.specs.Times.{artte, tte}
-use Rattle.registers.specs.Values.{fcac, reduction, usableAt}
+use Rattle.registers.specs.Times.{artte, stte, tte, ttf}
+use Rattle.registers.specs.Values.{fcac, reduction, rsoc, usableAt}
 use Rattle.sample.specs.Current.{charge, counted, discharge}
 use Rattle.sample.specs.Limits.{zeroOrWithin}
 use Rattle.sample.specs.Range.{between, currentInRange, valueBetween}
-use Rattle.sample.specs.Sample.{currentAccepted, noSample, sampleAccepted, sampleReset, sampleRested}
-use Rattle.standby.specs.Standby.{averaged, standbyAccepted, standbyReset}
+use Rattle.sample.specs.Sample.{currentAccepted, noSample, sampleAccepted, sampleObeyed, sampleRested}
+use Rattle.standby.specs.Standby.{averaged, shown, standbyAccepted, standbyObeyed}
 use Rattle.examples.proofs.proved_cycles.Statement.{statement}
 use Rattle.examples.proofs.proved_cycles.Tie as tie
 
 returns : tie.Need-returns
-unfolding chargeAccepted emptied filled heldMoved leaked moved openedCharge runMoved withoutRun chargeObeyed writtenLmd writtenNac rested
-    restedOnce decide decide56 decideA9 highestCommandBit isReset openedMode countersMoved countersObeyed countersRested openedCounters
-    clearedIf flagsObeyed settingsAccepted accepted restAnswer storedAt windowAnswer writeAnswer writeRefusal
-    written decided obeyed openAnswer openRefusal opened rest chargeAfter reachedIn summed window band leak leakRate reached weight drained runAccepted
-    unlessPassed commanded commandsCleared fullIf hostObeyed initCleared openedHost stored endingOf isFull chargeEnded
-    chargeReached filledIf flagsEnded reachedBy charge counted discharge zeroOrWithin between currentInRange valueBetween currentAccepted noSample
-    sampleAccepted sampleReset sampleRested averaged standbyAccepted standbyReset
-    countersAccepted cyclesAccepted noCycles cyclesMoved cyctAfter drainWith
-    adcgn dcmp dt minutes offsetTerm rateTerm dcompTaken lookUp register rows artte tte usableAt fcac reduction learned mayTeach taught atTaught
+unfolding chargeAccepted emptied filled heldMoved leaked moved openedCharge runMoved taught withoutRun chargeObeyed writtenLmd writtenNac rested
+    restedOnce decide decideBy highestCommandBit adcgn dcmp dt minutes offsetTerm rateTerm dcompTaken openedMode settingsAccepted countersAccepted
+    countersMoved countersObeyed countersRested openedCounters cyclesAccepted cyclesMoved cyctAfter drainWith noCycles flagsByte atEdv1 atEdvf
+    atTaught clearedIf flagsObeyed accepted restAnswer storedAt windowAnswer writeAnswer writeRefusal written decided obeyed openAnswer openRefusal
+    opened rest window band leak leakRate reached weight learned drained runAccepted unlessPassed commanded commandsCleared fullIf hostObeyed
+    initCleared openedHost stored chargeAfter reachedIn summed endingOf mayTeach isFull chargeEnded chargeReached filledIf flagsEnded reachedBy
+    lookUp register rows artte stte tte ttf fcac reduction rsoc usableAt charge counted discharge zeroOrWithin between currentInRange valueBetween
+    currentAccepted noSample sampleAccepted sampleObeyed sampleRested averaged shown standbyAccepted standbyObeyed
 returns c =
     record {
       drain-796 = refl;

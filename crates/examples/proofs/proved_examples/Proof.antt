@@ -1,7 +1,7 @@
 -- Each row holds by computation. Assumes nothing.
 use mathlib.Core.Path.{refl}
 use Rattle.charge.specs.Charge.{chargeAccepted, emptied, filled, heldMoved, leaked, moved, openedCharge, runMoved, taught, withoutRun}
-use Rattle.command.specs.Command.{decide, decideA9, highestCommandBit}
+use Rattle.command.specs.Command.{decide, decideBy, highestCommandBit}
 use Rattle.compensation.specs.Compensation.{adcgn, dcmp, dt, minutes, offsetTerm, rateTerm}
 use Rattle.configuration.specs.Configuration.{dcompTaken, openedMode}
 use Rattle.configuration.specs.Settings.{settingsAccepted}
@@ -16,13 +16,13 @@ use Rattle.gauge.specs.Window.{window}
 use Rattle.grains.specs.Leak.{band, leak, leakRate, reached, weight}
 use Rattle.grains.specs.Learning.{learned}
 use Rattle.grains.specs.Run.{drained, runAccepted, unlessPassed}
-use Rattle.host.specs.Host.{fullIf, openedHost}
+use Rattle.host.specs.Host.{fullIf, initCleared, openedHost}
 use Rattle.reached.specs.ChargeAfter.{chargeAfter, reachedIn, summed}
 use Rattle.reached.specs.Ending.{endingOf, mayTeach}
 use Rattle.reached.specs.Full.{isFull}
 use Rattle.reached.specs.Reached.{chargeEnded, chargeReached, filledIf, flagsEnded, reachedBy}
 use Rattle.registers.specs.Times.{tte}
-use Rattle.registers.specs.Values.{reduction, rsoc, usableAt}
+use Rattle.registers.specs.Values.{rsoc, usableAt}
 use Rattle.sample.specs.Current.{charge, counted, discharge}
 use Rattle.sample.specs.Limits.{zeroOrWithin}
 use Rattle.sample.specs.Range.{between, currentInRange, valueBetween}
@@ -32,12 +32,12 @@ use Rattle.examples.proofs.proved_examples.Statement.{statement}
 use Rattle.examples.proofs.proved_examples.Tie as tie
 
 returns : tie.Need-returns
-unfolding chargeAccepted emptied filled heldMoved leaked moved openedCharge runMoved taught withoutRun decide decideA9 highestCommandBit
-    dcmp dt minutes offsetTerm rateTerm dcompTaken openedMode flagsByte atEdv1 atEdvf atTaught clearedIf settingsAccepted accepted windowAnswer openAnswer
-    openRefusal opened chargeAfter reachedIn summed window band leak leakRate reached weight learned drained runAccepted unlessPassed fullIf openedHost
-    endingOf mayTeach isFull chargeEnded chargeReached filledIf flagsEnded reachedBy tte usableAt reduction rsoc charge counted discharge
-    zeroOrWithin between currentInRange valueBetween currentAccepted noSample sampleAccepted averaged standbyAccepted
-    adcgn countersAccepted countersMoved openedCounters cyclesAccepted cyclesMoved cyctAfter drainWith noCycles
+unfolding chargeAccepted emptied filled heldMoved leaked moved openedCharge runMoved taught withoutRun decide decideBy highestCommandBit adcgn dcmp
+    dt minutes offsetTerm rateTerm dcompTaken openedMode settingsAccepted countersAccepted countersMoved openedCounters cyclesAccepted cyclesMoved
+    cyctAfter drainWith noCycles flagsByte atEdv1 atEdvf atTaught clearedIf accepted windowAnswer openAnswer openRefusal opened window band leak
+    leakRate reached weight learned drained runAccepted unlessPassed fullIf initCleared openedHost chargeAfter reachedIn summed endingOf mayTeach
+    isFull chargeEnded chargeReached filledIf flagsEnded reachedBy tte rsoc usableAt charge counted discharge zeroOrWithin between currentInRange
+    valueBetween currentAccepted noSample sampleAccepted averaged standbyAccepted
 returns c =
     record {
       bench-lmd = refl;

@@ -1,7 +1,8 @@
 -- Each row holds by computation. Assumes nothing.
 use mathlib.Core.Path.{refl}
 use Rattle.charge.specs.Charge.{chargeAccepted, openedCharge}
-use Rattle.configuration.specs.Configuration.{openedMode}
+use Rattle.compensation.specs.Compensation.{adcgn, dcmp, dt, minutes, offsetTerm, rateTerm}
+use Rattle.configuration.specs.Configuration.{dcompTaken, openedMode}
 use Rattle.configuration.specs.Settings.{settingsAccepted}
 use Rattle.counters.specs.Counters.{countersAccepted, openedCounters}
 use Rattle.counters.specs.Cycles.{cyclesAccepted, noCycles}
@@ -15,18 +16,22 @@ use Rattle.host.specs.Host.{openedHost}
 use Rattle.load.specs.EveryForm.{loadAnswer}
 use Rattle.load.specs.Load.{acceptedAnswer, answerIn, formFits, loaded, loadedCharge, loadedCounters, loadedHost, loadedSample, rejectedAnswer}
 use Rattle.registers.specs.Map.{lookUp, register, rows}
+use Rattle.registers.specs.Times.{artte, stte, tte, ttf}
+use Rattle.registers.specs.Values.{fcac, reduction, rsoc, usableAt}
+use Rattle.sample.specs.Current.{charge, discharge}
 use Rattle.sample.specs.Limits.{zeroOrWithin}
 use Rattle.sample.specs.Sample.{currentAccepted, noSample, sampleAccepted}
 use Rattle.saved.specs.Save.{fieldBytes, savedBytes}
-use Rattle.standby.specs.Standby.{standbyAccepted}
+use Rattle.standby.specs.Standby.{shown, standbyAccepted}
 use Rattle.examples.proofs.proved_forms.Statement.{statement}
 use Rattle.examples.proofs.proved_forms.Tie as tie
 
 returns : tie.Need-returns
-unfolding chargeAccepted openedCharge openedMode flagsByte flagsFit flagsOf settingsAccepted accepted opened runAccepted openedHost zeroOrWithin currentAccepted
-    noSample sampleAccepted loadAnswer acceptedAnswer answerIn formFits loaded loadedCharge loadedCounters loadedHost loadedSample rejectedAnswer fieldBytes
-    laidOut savedBytes currentOf signedPair standbyAccepted openedCounters
-    countersAccepted cyclesAccepted noCycles lookUp register rows
+unfolding chargeAccepted openedCharge adcgn dcmp dt minutes offsetTerm rateTerm dcompTaken openedMode settingsAccepted countersAccepted
+    openedCounters cyclesAccepted noCycles flagsByte flagsFit flagsOf laidOut currentOf signedPair accepted opened runAccepted openedHost loadAnswer
+    acceptedAnswer answerIn formFits loaded loadedCharge loadedCounters loadedHost loadedSample rejectedAnswer lookUp register rows artte stte tte
+    ttf fcac reduction rsoc usableAt charge discharge zeroOrWithin currentAccepted noSample sampleAccepted fieldBytes savedBytes shown
+    standbyAccepted
 returns c =
     record {
       length-41 = refl;

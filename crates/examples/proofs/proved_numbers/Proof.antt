@@ -1,6 +1,6 @@
 -- Each row holds by computation. Assumes nothing.
 use mathlib.Core.Path.{refl}
-use Rattle.command.specs.Command.{decide, decide56, decideA9, highestCommandBit}
+use Rattle.command.specs.Command.{decide, decideBy, highestCommandBit}
 use Rattle.gauge.specs.Calls.{writeRefusal}
 use Rattle.gauge.specs.Opening.{openRefusal}
 use Rattle.registers.specs.Reading.{placeRefusal}
@@ -9,7 +9,7 @@ use Rattle.examples.proofs.proved_numbers.Statement.{statement}
 use Rattle.examples.proofs.proved_numbers.Tie as tie
 
 returns : tie.Need-returns
-unfolding decide decide56 decideA9 highestCommandBit writeRefusal openRefusal placeRefusal between currentInRange
+unfolding decide decideBy highestCommandBit writeRefusal openRefusal placeRefusal between currentInRange
 returns c =
     record {
       number-1 = refl;

@@ -1,9 +1,9 @@
 -- Each row holds by computation. Assumes nothing.
 use mathlib.Core.Path.{refl}
-use Rattle.charge.specs.Charge.{chargeAccepted, filled, leaked, openedCharge}
-use Rattle.charge.specs.Obeyed.{chargeObeyed}
+use Rattle.charge.specs.Charge.{chargeAccepted, filled, leaked, openedCharge, withoutRun}
+use Rattle.charge.specs.Obeyed.{chargeObeyed, writtenLmd, writtenNac}
 use Rattle.charge.specs.Rest.{rested, restedOnce}
-use Rattle.command.specs.Command.{decide, decideA9, highestCommandBit, isReset}
+use Rattle.command.specs.Command.{decide, decideBy, highestCommandBit}
 use Rattle.configuration.specs.Configuration.{openedMode}
 use Rattle.configuration.specs.Settings.{settingsAccepted}
 use Rattle.counters.specs.Counters.{countersAccepted, countersObeyed, countersRested, openedCounters}
@@ -17,20 +17,20 @@ use Rattle.gauge.specs.Rest.{rest}
 use Rattle.grains.specs.Leak.{band, leak, leakRate, reached, weight}
 use Rattle.grains.specs.Rest.{stepWindows}
 use Rattle.grains.specs.Run.{drained, runAccepted, unlessPassed}
-use Rattle.host.specs.Host.{commanded, commandsCleared, hostObeyed, initCleared, openedHost, stored}
+use Rattle.host.specs.Host.{commanded, commandsCleared, fullIf, hostObeyed, initCleared, openedHost, stored}
 use Rattle.sample.specs.Limits.{zeroOrWithin}
 use Rattle.sample.specs.Range.{between, valueBetween}
-use Rattle.sample.specs.Sample.{currentAccepted, noSample, sampleAccepted, sampleReset, sampleRested}
-use Rattle.standby.specs.Standby.{standbyAccepted, standbyReset}
+use Rattle.sample.specs.Sample.{currentAccepted, noSample, sampleAccepted, sampleObeyed, sampleRested}
+use Rattle.standby.specs.Standby.{standbyAccepted, standbyObeyed}
 use Rattle.examples.proofs.proved_rests.Statement.{statement}
 use Rattle.examples.proofs.proved_rests.Tie as tie
 
 returns : tie.Need-returns
-unfolding chargeAccepted filled leaked openedCharge chargeObeyed rested restedOnce decide decideA9 highestCommandBit isReset openedMode flagsObeyed
-    settingsAccepted accepted restAnswer storedAt writeAnswer writeRefusal written decided obeyed openAnswer openRefusal opened rest band leak leakRate reached weight
-    stepWindows drained runAccepted unlessPassed commanded commandsCleared hostObeyed initCleared openedHost stored zeroOrWithin between valueBetween
-    currentAccepted noSample sampleAccepted sampleReset sampleRested standbyAccepted standbyReset
-    countersAccepted countersObeyed countersRested openedCounters cyclesAccepted noCycles
+unfolding chargeAccepted filled leaked openedCharge withoutRun chargeObeyed writtenLmd writtenNac rested restedOnce decide decideBy
+    highestCommandBit openedMode settingsAccepted countersAccepted countersObeyed countersRested openedCounters cyclesAccepted noCycles flagsObeyed
+    accepted restAnswer storedAt writeAnswer writeRefusal written decided obeyed openAnswer openRefusal opened rest band leak leakRate reached
+    weight stepWindows drained runAccepted unlessPassed commanded commandsCleared fullIf hostObeyed initCleared openedHost stored zeroOrWithin
+    between valueBetween currentAccepted noSample sampleAccepted sampleObeyed sampleRested standbyAccepted standbyObeyed
 returns c =
     record {
       first-loses = refl;

@@ -1,44 +1,45 @@
 -- Each row holds by computation. Assumes nothing.
 use mathlib.Core.Path.{refl}
-use Rattle.charge.specs.Charge.{chargeAccepted, emptied, filled, heldMoved, leaked, moved, openedCharge, runMoved, withoutRun}
-use Rattle.charge.specs.Obeyed.{chargeObeyed, writtenNac}
-use Rattle.command.specs.Command.{decide, decideA9, highestCommandBit, isReset}
+use Rattle.charge.specs.Charge.{chargeAccepted, emptied, filled, heldMoved, leaked, moved, openedCharge, runMoved, taught, withoutRun}
+use Rattle.charge.specs.Obeyed.{chargeObeyed, writtenLmd, writtenNac}
+use Rattle.command.specs.Command.{decide, decideBy, highestCommandBit}
 use Rattle.compensation.specs.Compensation.{minutes}
 use Rattle.configuration.specs.Configuration.{openedMode}
 use Rattle.configuration.specs.Settings.{settingsAccepted}
 use Rattle.counters.specs.Counters.{countersAccepted, countersMoved, countersObeyed, openedCounters}
 use Rattle.counters.specs.Cycles.{cyclesAccepted, cyclesMoved, cyctAfter, drainWith, noCycles}
-use Rattle.flags.specs.Flags.{clearedIf, flagsObeyed}
+use Rattle.examples.specs.StandbyRows.{afterLoads}
+use Rattle.flags.specs.Flags.{atEdv1, atEdvf, atTaught, clearedIf, flagsObeyed}
 use Rattle.gauge.specs.Accepted.{accepted}
 use Rattle.gauge.specs.Calls.{storedAt, windowAnswer, writeAnswer, writeRefusal, written}
 use Rattle.gauge.specs.Obey.{decided, obeyed}
 use Rattle.gauge.specs.Opening.{openAnswer, openRefusal, opened}
 use Rattle.gauge.specs.Window.{window}
 use Rattle.grains.specs.Leak.{band, leak, leakRate, reached, weight}
+use Rattle.grains.specs.Learning.{learned}
 use Rattle.grains.specs.Run.{drained, runAccepted, unlessPassed}
 use Rattle.host.specs.Host.{commanded, commandsCleared, fullIf, hostObeyed, initCleared, openedHost, stored}
 use Rattle.reached.specs.ChargeAfter.{chargeAfter, reachedIn, summed}
-use Rattle.reached.specs.Ending.{endingOf}
+use Rattle.reached.specs.Ending.{endingOf, mayTeach}
 use Rattle.reached.specs.Full.{isFull}
 use Rattle.reached.specs.Reached.{chargeEnded, chargeReached, filledIf, flagsEnded, reachedBy}
 use Rattle.registers.specs.Times.{stte}
 use Rattle.sample.specs.Current.{charge, counted, discharge}
 use Rattle.sample.specs.Limits.{zeroOrWithin}
 use Rattle.sample.specs.Range.{between, currentInRange, valueBetween}
-use Rattle.sample.specs.Sample.{currentAccepted, noSample, sampleAccepted, sampleReset}
-use Rattle.standby.specs.Standby.{averaged, shown, standbyAccepted, standbyReset}
-use Rattle.examples.specs.StandbyRows.{afterLoads}
+use Rattle.sample.specs.Sample.{currentAccepted, noSample, sampleAccepted, sampleObeyed}
+use Rattle.standby.specs.Standby.{averaged, shown, standbyAccepted, standbyObeyed}
 use Rattle.examples.proofs.proved_standby.Statement.{statement}
 use Rattle.examples.proofs.proved_standby.Tie as tie
 
 returns : tie.Need-returns
-unfolding chargeAccepted emptied filled heldMoved leaked moved openedCharge runMoved withoutRun chargeObeyed writtenNac decide decideA9
-    highestCommandBit isReset minutes openedMode clearedIf flagsObeyed settingsAccepted accepted storedAt windowAnswer writeAnswer writeRefusal written decided
-    obeyed openAnswer openRefusal opened chargeAfter reachedIn summed window band leak leakRate reached weight drained runAccepted unlessPassed
-    commanded commandsCleared fullIf hostObeyed initCleared openedHost stored endingOf isFull chargeEnded chargeReached filledIf flagsEnded reachedBy
-    stte charge counted discharge zeroOrWithin between currentInRange valueBetween currentAccepted noSample sampleAccepted sampleReset averaged
-    shown standbyAccepted standbyReset afterLoads
-    countersAccepted countersMoved countersObeyed openedCounters cyclesAccepted cyclesMoved cyctAfter drainWith noCycles
+unfolding chargeAccepted emptied filled heldMoved leaked moved openedCharge runMoved taught withoutRun chargeObeyed writtenLmd writtenNac decide
+    decideBy highestCommandBit minutes openedMode settingsAccepted countersAccepted countersMoved countersObeyed openedCounters cyclesAccepted
+    cyclesMoved cyctAfter drainWith noCycles afterLoads atEdv1 atEdvf atTaught clearedIf flagsObeyed accepted storedAt windowAnswer writeAnswer
+    writeRefusal written decided obeyed openAnswer openRefusal opened window band leak leakRate reached weight learned drained runAccepted
+    unlessPassed commanded commandsCleared fullIf hostObeyed initCleared openedHost stored chargeAfter reachedIn summed endingOf mayTeach isFull
+    chargeEnded chargeReached filledIf flagsEnded reachedBy stte charge counted discharge zeroOrWithin between currentInRange valueBetween
+    currentAccepted noSample sampleAccepted sampleObeyed averaged shown standbyAccepted standbyObeyed
 returns c =
     record {
       opened-480 = refl;

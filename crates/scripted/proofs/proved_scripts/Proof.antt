@@ -13,7 +13,7 @@ use Rattle.charge.specs.Charge.{chargeAccepted, emptied, filled, heldMoved, lea
 use Rattle.charge.specs.Obeyed.{chargeObeyed, writtenLmd, writtenNac}
 use Rattle.charge.specs.Rest.{rested, restedOnce}
 use Rattle.charge.specs.Step.{leakedAtOnce}
-use Rattle.command.specs.Command.{commandOf, decide, decide56, decideA9, highestCommandBit, isReset}
+use Rattle.command.specs.Command.{commandOf, decide, decideBy, highestCommandBit}
 use Rattle.compensation.specs.Compensation.{adcgn, dcmp, dt, minutes, offsetTerm, rateTerm}
 use Rattle.compensation.specs.Unaged.{dcmpUnaged}
 use Rattle.configuration.specs.Configuration.{dcompTaken, openedMode}
@@ -40,7 +40,7 @@ use Rattle.grains.specs.Rest.{restLeak}
 use Rattle.grains.specs.Run.{drained, runAccepted, unlessPassed}
 use Rattle.handset.specs.Calls.{callBytes, callNumber, convertBytes, convertNumber, lookLeaves, lookNumber, openBytes, openNumber}
 use Rattle.handset.specs.Keep.{hostPlace, keptBytes, keptNumber}
-use Rattle.history.specs.Account.{afterEmptyStop, afterFull, afterRest, afterRestWindow, afterRun, afterSums, afterVoltage, afterWindow, leakNow}
+use Rattle.history.specs.Account.{afterEmptyStop, afterFull, afterRest, afterRestWindow, afterRun, afterSetting, afterSums, afterVoltage, afterWindow, leakNow}
 use Rattle.history.specs.After.{after, gaugeAfter, numberOf}
 use Rattle.history.specs.Claim.{begun}
 use Rattle.history.specs.Drain.{gains, unlessAbove}
@@ -76,11 +76,11 @@ use Rattle.registers.specs.Whole.{allAnswer}
 use Rattle.sample.specs.Current.{charge, counted, discharge}
 use Rattle.sample.specs.Limits.{zeroOrWithin}
 use Rattle.sample.specs.Range.{between, currentInRange, valueBetween}
-use Rattle.sample.specs.Sample.{currentAccepted, noSample, sampleAccepted, sampleReset, sampleRested}
+use Rattle.sample.specs.Sample.{currentAccepted, noSample, sampleAccepted, sampleObeyed, sampleRested}
 use Rattle.saved.specs.Put.{chargePut, countersPut, headed, hostPut, samplePut}
 use Rattle.saved.specs.RoundTrip.{reloadedAnswer}
 use Rattle.saved.specs.Save.{bufferAfter, fieldBytes, putAfter, saveRefusal, savedBytes}
-use Rattle.standby.specs.Standby.{averaged, shown, standbyAccepted, standbyReset}
+use Rattle.standby.specs.Standby.{averaged, shown, standbyAccepted, standbyObeyed}
 use Rattle.scripted.proofs.proved_scripts.Statement.{statement}
 use Rattle.scripted.proofs.proved_scripts.Tie as tie
 
@@ -88,23 +88,23 @@ returns : tie.Need-returns
 unfolding endedAt Feed.fed fedAt isEnded lastOutput lastOutputAt afterFirst fedFirst firstOutput namesFed fedAll printedAt printedFrom printedOf
     fedListed lineOutput linesPrinted listPrinted printed sameBytes refusedText registersText textOf answerOutput lineAnswered registersOutput
     chargeAccepted emptied filled heldMoved leaked moved openedCharge runMoved taught withoutRun chargeObeyed writtenLmd writtenNac rested
-    restedOnce leakedAtOnce commandOf decide decide56 decideA9 highestCommandBit isReset adcgn dcmp dt minutes offsetTerm rateTerm dcmpUnaged
-    dcompTaken openedMode countersAccepted countersMoved countersObeyed countersRested openedCounters cyclesAccepted cyclesMoved cyctAfter drainWith
+    restedOnce leakedAtOnce commandOf decide decideBy highestCommandBit adcgn dcmp dt minutes offsetTerm rateTerm dcmpUnaged dcompTaken openedMode
+    settingsAccepted countersAccepted countersMoved countersObeyed countersRested openedCounters cyclesAccepted cyclesMoved cyctAfter drainWith
     noCycles bytesAfter calledBytes calledNumber bytesAfterSteps callsOf stepBytes distanceAfter distanceFrom estimateAfter estimateRefusal
-    estimated flagsByte flagsFit flagsOf atEdv1 atEdvf atTaught clearedIf flagsObeyed laidOut inNewest widened currentOf signedPair settingsAccepted accepted
-    keyAnswer restAnswer storedAt windowAnswer writeAnswer writeRefusal written decided obeyed openAnswer openRefusal opened rest chargeAfter reachedIn summed
-    window band leak leakRate reached weight learned restLeak drained runAccepted unlessPassed callBytes callNumber convertBytes convertNumber
-    lookLeaves lookNumber openBytes openNumber hostPlace keptBytes keptNumber afterEmptyStop afterFull afterRest afterRestWindow afterRun afterSums
+    estimated flagsByte flagsFit flagsOf atEdv1 atEdvf atTaught clearedIf flagsObeyed laidOut inNewest widened currentOf signedPair accepted
+    keyAnswer restAnswer storedAt windowAnswer writeAnswer writeRefusal written decided obeyed openAnswer openRefusal opened rest window band leak
+    leakRate reached weight learned restLeak drained runAccepted unlessPassed callBytes callNumber convertBytes convertNumber lookLeaves lookNumber
+    openBytes openNumber hostPlace keptBytes keptNumber afterEmptyStop afterFull afterRest afterRestWindow afterRun afterSetting afterSums
     afterVoltage afterWindow leakNow after gaugeAfter numberOf begun gains unlessAbove afterCall afterCalls afterCommand afterKey afterWork
     afterWrite hostAfter startedHistory refusalOf chargeOf countedCurrent qualifies reachesE1 reachesEdvf reachesFull stopsEmpty commanded
     commandsCleared fullIf hostObeyed initCleared openedHost stored decimal decimalWithin joined line three words allDigits number ranged unsigned
     valueFrom placeAfter putAt Reading.fed goesOn readAs spaced linesOf digitFed firstFed grown wordFed wordNumber carriedStandby heldFits
     loadAnswer acceptedAnswer answerIn decodedGauge formFits loaded loadedCharge loadedCounters loadedHost loadedSample ofLength rejectedAnswer rule
-    inTable permille commandAfter previewRefusal Preview.replyAfter endingOf mayTeach isFull chargeEnded chargeReached filledIf flagsEnded reachedBy
-    lookUp register registersFrom rows placeRefusal readRefusal Reading′.replyAfter artte stte tte ttf usableAt fcac reduction rsoc allAnswer charge
-    counted discharge zeroOrWithin between currentInRange valueBetween currentAccepted noSample sampleAccepted sampleReset sampleRested chargePut
-    countersPut headed hostPut samplePut reloadedAnswer bufferAfter fieldBytes putAfter saveRefusal savedBytes averaged shown standbyAccepted
-    standbyReset
+    inTable permille commandAfter previewRefusal Preview.replyAfter chargeAfter reachedIn summed endingOf mayTeach isFull chargeEnded chargeReached
+    filledIf flagsEnded reachedBy lookUp register registersFrom rows placeRefusal readRefusal Reading′.replyAfter artte stte tte ttf fcac reduction
+    rsoc usableAt allAnswer charge counted discharge zeroOrWithin between currentInRange valueBetween currentAccepted noSample sampleAccepted
+    sampleObeyed sampleRested chargePut countersPut headed hostPut samplePut reloadedAnswer bufferAfter fieldBytes putAfter saveRefusal savedBytes
+    averaged shown standbyAccepted standbyObeyed
 returns c =
     record {
       registers = record {

@@ -1,9 +1,9 @@
--- Each way returns the case that its tests pick. Assumes nothing.
+-- Each known key has its rows; any other is not in the list. Assumes nothing.
 use mathlib.Core.Path.{ap, _∙_}
-use Rattle.command.specs.Command.{decideA9, decide56}
-use borrow.Author.Tests.{eq-eqb, ne-eqb}
+use Prim.Native.Nat.{ℕ}
+use borrow.Author.Tests.{ne-eqb}
 use borrow.Author.Needs.{needs}
-use Rattle.command.specs.Command.{decide}
+use Rattle.command.specs.Command.{commands, decide, decideBy}
 use Rattle.command.proofs.command.decide.Statement.{statement}
 use Rattle.command.proofs.command.decide.Tie as tie
 
@@ -15,7 +15,10 @@ decide-a9-requires c κs = search needs
 
 returns : tie.Need-returns
 unfolding decide
-returns c = simp (eq-eqb _ _ (c .before .before .if1 .taken)) (c .decide-a9 .ensures ∙ ap decideA9 (c .before .highest-command-bit .ensures))
+returns c =
+    let p = c .before .before in
+    let ar = p .before .args .ar in
+    simp (p .if1 .taken) (c .decide-a9 .ensures ∙ ap (λ (bit : ℕ). decideBy commands 0xA9 bit ar) (c .before .highest-command-bit .ensures))
 
 highest-command-bit-requires-2 : tie.Need-highest-command-bit-requires-2
 highest-command-bit-requires-2 c κs = search needs
@@ -28,10 +31,10 @@ unfolding decide
 returns-2 c =
     let p = c .before .before in
     let ar = p .before .before .args .ar in
-    simp (ne-eqb _ _ (p .before .if1 .left), eq-eqb _ _ (p .if2 .taken)) (c .decide-56 .ensures ∙ ap (decide56 ar) (c .before .highest-command-bit2 .ensures))
+    simp (p .if2 .taken) (c .decide-56 .ensures ∙ ap (λ (bit : ℕ). decideBy commands 0x56 bit ar) (c .before .highest-command-bit2 .ensures))
 
 returns-3 : tie.Need-returns-3
-unfolding decide
+unfolding decide decideBy
 returns-3 c = simp (ne-eqb _ _ (c .before .if1 .left), ne-eqb _ _ (c .if2 .left))
 
 pub decide-spec : {M : Type 1} → statement M
