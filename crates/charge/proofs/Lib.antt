@@ -1,3 +1,4 @@
+pub mod ChargeKept
 pub mod ChargeLaws
 pub mod RestLaws
 pub mod RunKept

@@ -1,4 +1,5 @@
 pub mod Charge
+pub mod Fits
 pub mod Obeyed
 pub mod Rest
 pub mod Step

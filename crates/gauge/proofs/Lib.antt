@@ -3,5 +3,5 @@ pub mod CallLaws
 pub mod GaugeLaws
 pub mod ObeyedKept
 pub mod OpeningLaws
-pub mod Standing
+pub mod TakenLaws
 pub mod WindowLaws

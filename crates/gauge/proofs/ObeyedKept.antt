@@ -1,12 +1,12 @@
 -- A command leaves a gauge that 14 does not refuse, of the widths that every gauge has: each part stays one that is accepted, and WRTLMD is obeyed
 -- only where AR is above 0. Assumes nothing.
-use mathlib.Core.Bool.{true, not, cond}
-use mathlib.Core.List.{List}
+use mathlib.Core.Bool.{true, cond}
 use mathlib.Core.Path.{_≡_, sym, ap, subst, _∙_}
 use Prim.Native.Nat.{ℕ, _<_}
 use native.Mathlib.Omega.{arith}
 use lib.Dec.{eqb}
 use borrow.Author.Tests.{eqb-false, not-true}
+use Rattle.charge.proofs.ChargeKept.{charge-taken, command-lmd, command-sound}
 use Rattle.command.specs.Command.{decide}
 use Rattle.command.specs.declared.command.Command.{Command}
 use Rattle.command.specs.declared.command.Command.the-variants.{Setting}
@@ -22,7 +22,6 @@ use Rattle.counters.proofs.CountersKept as Counters
 use Rattle.refusals.specs.Refusal as Refusal
 use Rattle.refusals.proofs.OrElseLaws.{not-rejected}
 use Rattle.host.proofs.HostKept.{obeyed-fits}
-use Rattle.reached.proofs.ChargeKept.{command-lmd, command-sound}
 use Rattle.sample.proofs.SampleKept.{command-sample}
 use Rattle.standby.proofs.StandbyKept.{obeyed-kept}
 use Rattle.gauge.specs.Accepted.{accepted}
@@ -31,7 +30,7 @@ use Rattle.gauge.specs.Fits.{Taken}
 use Rattle.gauge.specs.Obey.{decided, obeyed}
 use Rattle.gauge.specs.declared.state.Gauge.{Gauge}
 use Rattle.gauge.proofs.AcceptedLaws.{Sound, sound, sound-accepted}
-use Rattle.gauge.proofs.Standing.{Standing, standing, taken}
+use Rattle.gauge.proofs.TakenLaws.{gauge-taken}
 
 opens : (s : Settings) → settingsAccepted s ≡ true → 0 < ilmd s
 unfolding settingsAccepted
@@ -56,25 +55,22 @@ module _ (g : Gauge) (s : Sound g) where
   decided-sound (Obey command) above = obeyed-sound command (λ e. above (ap Obey e))
   decided-sound (Refused number) above = s
 
-module _ (g : Gauge) (s : Standing g) where
-  obeyed-stands : (command : Command) → (command ≡ Setting Wrtlmd → 0 < g .host .ar) → Standing (obeyed command g)
+module _ (g : Gauge) (k : Taken g) where
+  obeyed-taken : (command : Command) → (command ≡ Setting Wrtlmd → 0 < g .host .ar) → Taken (obeyed command g)
   unfolding obeyed
-  obeyed-stands command above =
+  obeyed-taken command above =
       let c = g .settings in
-      let q = s .settings .bytes 0 in
-      let w = s .host .ar in
-      record {
-        settings = s .settings;
-        sound = obeyed-sound g (s .sound) command above;
-        lmd = command-lmd command (termsOf c) (g .host .ar) (g .charge) (s .lmd) (omega arith) (omega arith);
-        host = obeyed-fits command c (g .host) (s .host);
-        counters = Counters.obeyed-fits (g .counters) (s .counters) command;
-      }
+      let f = k .fits in
+      let q = f .settings .bytes 0 in
+      let s = obeyed-sound g (sound g (k .accepted)) command above in
+      let y = charge-taken _ (s .charge) (command-lmd command (termsOf c) (g .host .ar) (g .charge) (f .charge .lmd) (omega arith) (f .host .ar)) in
+      gauge-taken (obeyed command g) s (f .settings) (y .fits) (obeyed-fits command c (g .host) (f .host))
+      (Counters.obeyed-fits (g .counters) (f .counters) command)
 
-  pub decided-stands : (d : Decision) → (d ≡ Obey (Setting Wrtlmd) → 0 < g .host .ar) → Standing (decided d g)
+  pub decided-taken : (d : Decision) → (d ≡ Obey (Setting Wrtlmd) → 0 < g .host .ar) → Taken (decided d g)
   unfolding decided
-  decided-stands (Obey command) above = obeyed-stands command (λ e. above (ap Obey e))
-  decided-stands (Refused number) above = s
+  decided-taken (Obey command) above = obeyed-taken command (λ e. above (ap Obey e))
+  decided-taken (Refused number) above = k
 
 -- ---- a key at CTRL
 
@@ -90,7 +86,7 @@ module _ (g : Gauge) (key : ℕ) where
   written-taken : Taken g → Taken (written 0 key g)
   unfolding written decision
   written-taken k =
-      taken (decided decision g) (decided-stands g (standing g k) decision (wrtlmd-above key (g .host .mode) (g .host .ar)))
+      decided-taken g k decision (wrtlmd-above key (g .host .mode) (g .host .ar))
 
   module _ (e : (writeAnswer g 0 key) .number ≡ Refusal.none) where
     key-gauge : (writeAnswer g 0 key) .gauge ≡ written 0 key g

@@ -40,7 +40,10 @@ use Rattle.history.proofs.CommandTracks.{HostTracks, full-host, host-de
 use Rattle.history.proofs.CountTracks.{CountTracks, command-counts, rest-counts, window-counts}
 use Rattle.history.proofs.RestTracks.{rest-tracks}
 use Rattle.sample.proofs.SampleKept.{counted-within}
-use Rattle.gauge.proofs.Standing.{Standing, bounded, rate-low}
+use Rattle.charge.proofs.ChargeKept.{rate-low}
+use Rattle.gauge.specs.Fits.{Taken}
+use Rattle.gauge.proofs.AcceptedLaws.{sound}
+use Rattle.gauge.proofs.TakenLaws.{taken-charge}
 use Rattle.history.proofs.Tracking.{Tracks}
 use Rattle.history.proofs.WindowTracks.{window-tracks}
 
@@ -69,7 +72,7 @@ counted-is terms a e = rw e (go (leb (magnitude a) (terms .dmf)))
 
 -- ---- each call's work
 
-module _ (g : Gauge) (x : History) (s : Standing g) (f : Beside g x) where
+module _ (g : Gauge) (x : History) (s : Taken g) (f : Beside g x) where
   window-charge : (a v t : ℤ) → InRange a v t
       → Tracks
       (chargeAfter (termsOf (g .settings))
@@ -80,7 +83,7 @@ module _ (g : Gauge) (x : History) (s : Standing g) (f : Beside g x) where
       let z = countedCurrent (termsOf c) a in
       let i = counted-is (termsOf c) a (r .current) in
       let m = counted-within (dmf c) a (r .current) in
-      let k = window-tracks (termsOf c) (temperature t) (rate-low c (temperature t)) (g .charge) (x .account) (f .tracks) (bounded g s) z (voltage v)
+      let k = window-tracks (termsOf c) (temperature t) (rate-low c (temperature t)) (g .charge) (x .account) (f .tracks) (taken-charge g s) z (voltage v)
       (subst (λ (j : Current). j .magnitude ≤ 65_535) i m) in
       let e =
       ap (λ (d : Settings). afterWindow (termsOf d) (countedCurrent (termsOf d) a) v t (x .account)) (f .settings)
@@ -99,7 +102,7 @@ module _ (g : Gauge) (x : History) (s : Standing g) (f : Beside g x) where
       let z = countedCurrent (termsOf c) a in
       let i = counted-is (termsOf c) a r in
       let small = subst (λ (j : Current). j .magnitude ≤ 65_535) i (counted-within (dmf c) a r) in
-      let k = window-counts (g .counters) (x .counts) (f .counts) l z small (accepted-drain (g .counters) (s .sound .counters)) in
+      let k = window-counts (g .counters) (x .counts) (f .counts) l z small (accepted-drain (g .counters) (sound g (s .accepted) .counters)) in
       subst₂ CountTracks (ap (λ (j : Current). countersMoved l j (g .counters)) (sym i))
       (ap (λ (m : ℕ). countsAfterWindow m z (x .counts)) (f .tracks .lmd)
       ∙ ap (λ (d : Settings). countsAfterWindow (x .account .learned) (countedCurrent (termsOf d) a) (x .counts)) (sym (f .settings))) k
@@ -123,7 +126,7 @@ module _ (g : Gauge) (x : History) (s : Standing g) (f : Beside g x) where
   unfolding rest
   rest-beside n t r =
       let c = g .settings in
-      let k = rest-tracks (termsOf c) (temperature t) (rate-low c (temperature t)) n (g .charge) (x .account) (f .tracks) (bounded g s) in
+      let k = rest-tracks (termsOf c) (temperature t) (rate-low c (temperature t)) n (g .charge) (x .account) (f .tracks) (taken-charge g s) in
       let e =
       ap (λ (d : Settings). afterRest (termsOf d) n t (x .account)) (f .settings)
       ∙ ap (λ (w : ℤ). afterRest (termsOf c) n w (x .account)) (value-is leastTemperature mostTemperature t r) in
@@ -140,7 +143,7 @@ module _ (g : Gauge) (x : History) (s : Standing g) (f : Beside g x) where
       record {
         settings = f .settings;
         tracks = f .tracks;
-        host = stored-host address value (g .host) (x .host) (s .host .ar) (f .host);
+        host = stored-host address value (g .host) (x .host) (s .fits .host .ar) (f .host);
         counts = f .counts;
       }
 

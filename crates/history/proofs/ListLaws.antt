@@ -23,7 +23,6 @@ use Rattle.gauge.specs.Calls.{restAnswer, restRefusal, sampleRefusal, windowAns
 use Rattle.gauge.specs.Fits.{Taken}
 use Rattle.gauge.specs.Opening.{openAnswer, openRefusal, opened}
 use Rattle.gauge.specs.declared.state.Gauge.{Gauge}
-use Rattle.gauge.proofs.AcceptedLaws.{sound-accepted}
 use Rattle.grains.specs.declared.run.Run.{Run}
 use Rattle.host.specs.Host.{openedHost}
 use Rattle.numbers.proofs.BoolLaws.{not-is-true}
@@ -39,14 +38,15 @@ use Rattle.history.specs.Refused.{refusalOf}
 use Rattle.history.proofs.AnswerLaws.{rest-in-range, window-in-range}
 use Rattle.history.proofs.BesideLaws.{Beside, rest-beside, window-beside, written-beside}
 use Rattle.history.proofs.CountTracks.{begun-counts}
-use Rattle.reached.proofs.ChargeKept.{opened-bounded}
+use Rattle.charge.proofs.ChargeKept as Charge
 use Rattle.host.proofs.HostKept.{opened-fits}
 use Rattle.history.proofs.NumberLaws.{number-other, numbers-alike}
 use Rattle.sample.specs.Limits.{restInRange}
 use Rattle.sample.proofs.SampleKept.{no-sample}
 use Rattle.standby.proofs.StandbyKept.{opened-standby}
-use Rattle.gauge.proofs.Standing.{Standing, standing, taken}
-use Rattle.history.proofs.StayLaws.{call-stands}
+use Rattle.gauge.proofs.AcceptedLaws.{sound}
+use Rattle.gauge.proofs.TakenLaws.{gauge-taken}
+use Rattle.history.proofs.StayLaws.{call-stays}
 use Rattle.history.proofs.Tracking.{fixed-is}
 
 -- ---- one call
@@ -64,18 +64,18 @@ either-beside : (t : Bool) (g : Gauge) (x : History) → Beside g x → Beside g
 either-beside true g x f = f
 either-beside false g x f = f
 
-pub call-beside : (call : Call) (g : Gauge) (x : History) → Standing g → Beside g x → Beside (gaugeAfter call g) (afterCall call x)
+pub call-beside : (call : Call) (g : Gauge) (x : History) → Taken g → Beside g x → Beside (gaugeAfter call g) (afterCall call x)
 unfolding gaugeAfter numberOf afterCall afterWork windowAnswer restAnswer writeAnswer
 call-beside (Call.window a v t) g x s f =
-    rw (← numbers-alike (Call.window a v t) g x (sound-accepted g (s .sound)) f)
+    rw (← numbers-alike (Call.window a v t) g x (s .accepted) f)
     (answered-beside (unlessRejected g (sampleRefusal a v t)) g _ x _ f
     (λ e. window-beside g x s f a v t (window-in-range a v t (not-rejected (accepted g) (sampleRefusal a v t) e .1))))
 call-beside (Call.rest n t) g x s f =
-    rw (← numbers-alike (Call.rest n t) g x (sound-accepted g (s .sound)) f)
+    rw (← numbers-alike (Call.rest n t) g x (s .accepted) f)
     (answered-beside (unlessRejected g (restRefusal n t)) g _ x _ f
     (λ e. rest-beside g x s f n t (rest-in-range (restInRange n) t (not-rejected (accepted g) (restRefusal n t) e .1))))
 call-beside (Call.write address value) g x s f =
-    rw (← numbers-alike (Call.write address value) g x (sound-accepted g (s .sound)) f)
+    rw (← numbers-alike (Call.write address value) g x (s .accepted) f)
     (answered-beside (unlessRejected g (writeRefusal (g .host .mode) (g .host .ar) address (value .number))) g _ x _ f
     (λ e. written-beside g x s f address (value .number)))
 call-beside (Call.read address count place replyLength) g x s f =
@@ -85,7 +85,7 @@ call-beside (Call.estimate v) g x s f = either-beside (eqb (refusalOf (Call.esti
 
 -- ---- every list
 
-agrees : (g : Gauge) (x : History) → Standing g → Beside g x → Agrees g x
+agrees : (g : Gauge) (x : History) → Taken g → Beside g x → Agrees g x
 agrees g x s f =
     record {
       held = sym (f .tracks .held);
@@ -94,23 +94,23 @@ agrees g x s f =
       rests = f .counts .rests;
       cycles = f .counts .cycles;
       drain = f .counts .drain;
-      refused = λ call. numbers-alike call g x (sound-accepted g (s .sound)) f;
+      refused = λ call. numbers-alike call g x (s .accepted) f;
       never = λ call e.
-          let n = numbers-alike call g x (sound-accepted g (s .sound)) f in
+          let n = numbers-alike call g x (s .accepted) f in
           number-other call x (sym n ∙ e);
     }
 
-pub list-agrees : (calls : List Call) (g : Gauge) (x : History) → Standing g → Beside g x → Agrees (after calls g) (afterCalls calls x)
+pub list-agrees : (calls : List Call) (g : Gauge) (x : History) → Taken g → Beside g x → Agrees (after calls g) (afterCalls calls x)
 unfolding after afterCalls
 list-agrees [] g x s f = agrees g x s f
 list-agrees (call ∷ calls) g x s f =
-    list-agrees calls (gaugeAfter call g) (afterCall call x) (call-stands call g s) (call-beside call g x s f)
+    list-agrees calls (gaugeAfter call g) (afterCall call x) (call-stays call g s) (call-beside call g x s f)
 
 -- every gauge on the way is accepted
-pub list-stays : (calls : List Call) (g : Gauge) → Standing g → Standing (after calls g)
+pub list-stays : (calls : List Call) (g : Gauge) → Taken g → Taken (after calls g)
 unfolding after
 list-stays [] g s = s
-list-stays (call ∷ calls) g s = list-stays calls (gaugeAfter call g) (call-stands call g s)
+list-stays (call ∷ calls) g s = list-stays calls (gaugeAfter call g) (call-stays call g s)
 
 -- ---- from any gauge
 
@@ -124,18 +124,18 @@ run-begun r s = go (r .vdq) refl
     go true e = ap (λ (v : Bool). runWith v (r .dcr)) e
     go false e = ap (λ (v : Bool). runWith v (r .dcr)) e ∙ ap (runWith false) (s .none e)
 
-begun-beside : (g : Gauge) → Standing g → Beside g (begun g)
+begun-beside : (g : Gauge) → Taken g → Beside g (begun g)
 unfolding begun
 begun-beside g s =
     record {
       settings = refl;
-      tracks = record { held = fixed-is (g .charge .held); lmd = refl; run = run-begun (g .charge .run) (s .sound .charge .run) };
+      tracks = record { held = fixed-is (g .charge .held); lmd = refl; run = run-begun (g .charge .run) (sound g (s .accepted) .charge .run) };
       host = record { mode = refl; ar = refl };
-      counts = begun-counts (g .counters) (s .counters);
+      counts = begun-counts (g .counters) (s .fits .counters);
     }
 
 pub from-any-gauge : FromAnyGauge
-from-any-gauge g k calls = list-agrees calls g (begun g) (standing g k) (begun-beside g (standing g k))
+from-any-gauge g k calls = list-agrees calls g (begun g) k (begun-beside g k)
 
 -- ---- demand 3
 
@@ -144,30 +144,23 @@ opened-number true true e = let z : ⊥ = omega arith in absurd z
 opened-number true false e = (refl, refl)
 opened-number false u e = let z : ⊥ = omega arith in absurd z
 
-pub opened-stands : (c : List ℕ) → ((k : ℕ) → getD c k 0 < 256) → openRefusal c ≡ 0 → Standing (opened c)
+pub opened-taken : (c : List ℕ) → ((k : ℕ) → getD c k 0 < 256) → openRefusal c ≡ 0 → Taken (opened c)
 unfolding opened openRefusal settingsAccepted
-opened-stands c bytes e =
+opened-taken c bytes e =
     let s = openedSettings c in
     let o = opened-number (eqb (length c) 10) (eqb (ilmd s) 0) e in
     let n : ilmd s ≡ 0 → ⊥ = eqb-false (ilmd s) 0 (o .1) in
     let q = bytes 0 in
-    let b = opened-bounded (termsOf s) (omega arith) (omega arith) in
-    record {
-      settings = record { ten = eqb-true (length c) 10 (o .0); bytes = bytes };
-      sound = record {
-        settings = not-is-true (eqb (ilmd s) 0) (o .1);
-        charge = b .sound;
-        standby = opened-standby (s0 s);
-        sample = no-sample (dmf s);
-        counters = opened-accepted;
-      };
-      lmd = b .lmd;
-      host = opened-fits s (bytes 6);
-      counters = opened-counters;
-    }
-
-pub opened-taken : (c : List ℕ) → ((k : ℕ) → getD c k 0 < 256) → openRefusal c ≡ 0 → Taken (opened c)
-opened-taken c bytes e = taken (opened c) (opened-stands c bytes e)
+    let y = Charge.opened-taken (termsOf s) (omega arith) (omega arith) in
+    gauge-taken (opened c)
+    (record {
+      settings = not-is-true (eqb (ilmd s) 0) (o .1);
+      charge = y .sound;
+      standby = opened-standby (s0 s);
+      sample = no-sample (dmf s);
+      counters = opened-accepted;
+    })
+    (record { ten = eqb-true (length c) 10 (o .0); bytes = bytes }) (y .fits) (opened-fits s (bytes 6)) opened-counters
 
 pub opened-answer : (c : List ℕ) → openRefusal c ≡ 0 → (openAnswer c) .gauge ≡ opened c
 unfolding openAnswer

@@ -18,9 +18,8 @@ use Rattle.gauge.specs.Answer.{unlessRejected}
 use Rattle.gauge.specs.Calls.{restAnswer}
 use Rattle.gauge.specs.Rest.{rest}
 use Rattle.gauge.specs.declared.state.Gauge.{Gauge}
-use Rattle.gauge.proofs.AcceptedLaws.{sound-accepted}
 use Rattle.gauge.proofs.GaugeLaws as Parts
-use Rattle.gauge.proofs.Standing.{Standing, standing}
+use Rattle.gauge.specs.Fits.{Taken}
 use Rattle.numbers.proofs.BoolLaws.{and-left}
 use Rattle.refusals.specs.Refusal as Refusal
 use Rattle.refusals.proofs.OrElseLaws.{not-rejected}
@@ -33,7 +32,7 @@ use Rattle.history.specs.Call.{Call}
 use Rattle.history.specs.Rests.{OneByOne, RestsOfOne}
 use Rattle.history.proofs.AnswerLaws.{rest-in-range}
 use Rattle.history.proofs.ListLaws.{list-stays}
-use Rattle.history.proofs.StayLaws.{rest-stands}
+use Rattle.history.proofs.StayLaws.{rest-stays}
 
 -- ---- one call
 
@@ -84,21 +83,21 @@ rest-joined n t g =
     Parts.gauge-is refl refl refl refl refl (rested-twice 1 (suc n) (g .counters) ∙ ap (λ (m : ℕ). countersRested m (g .counters)) all)
 
 module _ (t : ℤ) (inRange : temperatureInRange t ≡ true) where
-  taken-number : (g : Gauge) → Standing g → number t g ≡ Refusal.none
+  taken-number : (g : Gauge) → Taken g → number t g ≡ Refusal.none
   unfolding number
-  taken-number g s = simp (sound-accepted g (s .sound), inRange)
+  taken-number g s = simp (s .accepted, inRange)
 
-  taken-gauge : (n : ℕ) → restInRange n ≡ true → (g : Gauge) → Standing g → gaugeAfter (Call.rest n t) g ≡ rest n (temperature t) g
+  taken-gauge : (n : ℕ) → restInRange n ≡ true → (g : Gauge) → Taken g → gaugeAfter (Call.rest n t) g ≡ rest n (temperature t) g
   taken-gauge n r g s = gauge-is n r t g ∙ simp (taken-number g s)
 
-  all-rest : (n : ℕ) (g : Gauge) → Standing g → after (replicate (suc n) (Call.rest 1 t)) g ≡ rest (suc n) (temperature t) g
+  all-rest : (n : ℕ) (g : Gauge) → Taken g → after (replicate (suc n) (Call.rest 1 t)) g ≡ rest (suc n) (temperature t) g
   unfolding after
   all-rest zero g s = taken-gauge 1 refl g s
   all-rest (suc n) g s =
       ap (after (replicate (suc n) (Call.rest 1 t))) (taken-gauge 1 refl g s)
-      ∙ all-rest n (rest 1 (temperature t) g) (rest-stands g s 1 t inRange) ∙ rest-joined n (temperature t) g
+      ∙ all-rest n (rest 1 (temperature t) g) (rest-stays g s 1 t inRange) ∙ rest-joined n (temperature t) g
 
-  all-taken : (n : ℕ) → restInRange n ≡ true → (g : Gauge) → Standing g → OneByOne after gaugeAfter numberOf n t g
+  all-taken : (n : ℕ) → restInRange n ≡ true → (g : Gauge) → Taken g → OneByOne after gaugeAfter numberOf n t g
   all-taken zero r g s = absurd (not-suc-le-zero (some-windows 0 r))
   all-taken (suc n) r g s =
       record {
@@ -118,5 +117,5 @@ rests-of-one g fits n r t = go (eqb (number t g) Refusal.none) refl
     go : (b : Bool) → eqb (number t g) Refusal.none ≡ b → OneByOne after gaugeAfter numberOf n t g
     go true e =
         let p = not-rejected (accepted g) (temperatureRefusal t) (eqb-true (number t g) Refusal.none e) in
-        all-taken t (rest-in-range true t (p .1)) n r g (standing g (record { fits = fits; accepted = p .0 }))
+        all-taken t (rest-in-range true t (p .1)) n r g (record { fits = fits; accepted = p .0 })
     go false e = all-refused n r t g e

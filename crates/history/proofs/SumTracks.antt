@@ -23,7 +23,7 @@ use Rattle.history.specs.Account.{Account, afterRestWindow, afterSums, l
 use Rattle.history.specs.Claim.{runOf}
 use Rattle.history.specs.Drain.{gains, unlessAbove}
 use Rattle.history.specs.Sums.{chargeOf, grainsACount, grainsAUnit, withCurrent, withLeak}
-use Rattle.reached.proofs.ChargeKept.{Bounded, leak-most}
+use Rattle.charge.proofs.ChargeKept.{ChargeTaken, leak-most}
 use Rattle.history.proofs.DifferenceLaws.{Difference, is-natural}
 use Rattle.history.proofs.Tracking.{Tracks, drain-is, drainIn, drained-is, gained-drain, gains-again, passing-is}
 use Rattle.history.proofs.Tracking.{leaked-difference, moved-difference}
@@ -42,7 +42,7 @@ parts-difference (negsuc n) = record { balance = omega arith }
 
 -- ---- the sums
 
-module _ (terms : Terms) (t : ℕ) (low : leakRate (terms .sd) t ≤ 1_920) (y : Charge) (x : Account) (k : Tracks y x) (b : Bounded y) where
+module _ (terms : Terms) (t : ℕ) (low : leakRate (terms .sd) t ≤ 1_920) (y : Charge) (x : Account) (k : Tracks y x) (b : ChargeTaken y) where
   pub leak-is : leakNow terms (pos t) (x .sums) ≡ leak (y .held) (leakRate (terms .sd) t)
   unfolding leakNow leak
   leak-is = ap (λ (h : ℤ). atLeastZero h / grainsACount * leakRate (terms .sd) t) (k .held)
@@ -58,7 +58,7 @@ module _ (terms : Terms) (t : ℕ) (low : leakRate (terms .sd) t ≤ 1_920) (y :
       let e = leak-is in
       let h = leak-most y b (leakRate (terms .sd) t) low in
       let w = b .sound .within in
-      let m = b .lmd in
+      let m = b .fits .lmd in
       omega arith
 
   drained-once : drained (y .run) (leak (y .held) (leakRate (terms .sd) t)) ≡ runOf (gains (leakNow terms (pos t) (x .sums)) (x .run))

@@ -26,7 +26,7 @@ use Rattle.sample.specs.Range.{currentOf}
 use Rattle.history.specs.Account.{Account, afterEmptyStop, afterFull, afterSums, afterVoltage, afterWindow, fixing}
 use Rattle.history.specs.Sums.{chargeOf, grainsACount}
 use Rattle.history.specs.Tests.{reachesE1, reachesEdvf, reachesFull, stopsEmpty}
-use Rattle.reached.proofs.ChargeKept.{Bounded, leak-most, moved-held}
+use Rattle.charge.proofs.ChargeKept.{ChargeTaken, leak-most, moved-held}
 use Rattle.history.proofs.DifferenceLaws.{above-zero, at-most-zero, is-natural}
 use Rattle.history.proofs.SumTracks.{sums-difference, sums-lmd, sums-run}
 use Rattle.history.proofs.Tracking.{Tracks, fixed-is}
@@ -93,7 +93,7 @@ incoming z y = y .held + grainsOfCurrent (charge (currentOf z))
 abbrev outgoing : Terms → ℕ → ℤ → Charge → ℕ
 outgoing terms t z y = leak (y .held) (leakRate (terms .sd) t) + grainsOfCurrent (discharge (currentOf z))
 
-module _ (terms : Terms) (t : ℕ) (low : leakRate (terms .sd) t ≤ 1_920) (y : Charge) (x : Account) (k : Tracks y x) (b : Bounded y) where
+module _ (terms : Terms) (t : ℕ) (low : leakRate (terms .sd) t ≤ 1_920) (y : Charge) (x : Account) (k : Tracks y x) (b : ChargeTaken y) where
   held-is : (z : ℤ) → magnitude z ≤ 65_535 → (chargeMoved terms t z y) .held ≡ incoming z y - outgoing terms t z y
   held-is z small = moved-held y b (leakRate (terms .sd) t) low (currentOf z) small
 

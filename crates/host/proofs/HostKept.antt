@@ -10,14 +10,11 @@ use Rattle.configuration.specs.Configuration.{pkcfg}
 use Rattle.configuration.specs.Terms.{termsOf}
 use Rattle.configuration.specs.declared.settings.Settings.{Settings}
 use Rattle.configuration.proofs.ModeLaws.{opened-mode-is}
+use Rattle.host.specs.Fits.{HostFits}
 use Rattle.host.specs.Host.{commanded, commandsCleared, fullIf, hostObeyed, initCleared, openedHost, stored}
 use Rattle.host.specs.declared.host.Host.{Host}
 use Rattle.numbers.specs.Bits.{bitSet}
 use Rattle.numbers.specs.Little.{byteAt}
-
-pub record HostFits (h : Host) : Type 0 where
-  pub mode : h .mode < 256
-  pub ar : h .ar < 65_536
 
 -- ---- MODE
 

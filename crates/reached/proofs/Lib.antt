@@ -1,1 +1,1 @@
-pub mod ChargeKept
+pub mod ChargeAfterLaws

@@ -1,3 +1,4 @@
+pub mod CurrentLaws
 pub mod RangeLaws
 pub mod SampleKept
 pub mod SampleLaws

@@ -1,4 +1,5 @@
 pub mod Current
+pub mod Fits
 pub mod Limits
 pub mod Range
 pub mod Sample

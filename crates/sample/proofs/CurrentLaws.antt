@@ -1,0 +1,19 @@
+-- Of the two parts of a counted current the one against its direction is 0, and neither is above its magnitude. Assumes nothing.
+use mathlib.Core.Bool.{Bool, true, false, cond}
+use mathlib.Core.Path.{_≡_}
+use Prim.Native.Nat.{ℕ, _≤_}
+use native.Mathlib.Omega.{arith}
+use Rattle.sample.specs.Current.{charge}
+use Rattle.sample.specs.declared.current.Current.{Current}
+
+pub no-charge : (c : Current) → c .charging ≡ false → charge c ≡ 0
+unfolding charge
+no-charge c e = simp e
+
+pub charge-within : (c : Current) → charge c ≤ c .magnitude
+unfolding charge
+charge-within c = go (c .charging)
+  where
+    go : (t : Bool) → cond t (c .magnitude) 0 ≤ c .magnitude
+    go true = omega arith
+    go false = omega arith
