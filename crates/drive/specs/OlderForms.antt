@@ -8,7 +8,7 @@ use Rattle.counters.specs.declared.counters.Counters.{Counters}
 use Rattle.flags.specs.Byte.{flagsOf, vdqOf}
 use Rattle.form.specs.Signed.{currentOf}
 use Rattle.gauge.specs.declared.state.Gauge.{Gauge}
-use Rattle.load.specs.EveryForm.{loadAnswer}
+use Rattle.every_form.specs.EveryForm.{loadAnswer}
 use Rattle.numbers.specs.Little.{bytesAt, numberAt}
 use Rattle.refusals.specs.Refusal as Refusal
 use Rattle.registers.specs.Values.{si}

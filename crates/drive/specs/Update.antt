@@ -7,7 +7,7 @@ use Rattle.form.specs.Form.{formOf, newest, savedLength}
 use Rattle.handset.specs.Calls.{convertBytes, convertNumber}
 use Rattle.history.specs.Call.{Call}
 use Rattle.history.specs.History.{afterCalls}
-use Rattle.load.specs.EveryForm.{loadAnswer}
+use Rattle.every_form.specs.EveryForm.{loadAnswer}
 use Rattle.load.specs.Load.{answerIn}
 use Rattle.refusals.specs.Refusal as Refusal
 use Rattle.drive.specs.Claim.{HoldsHistory, begunIn}

@@ -15,7 +15,7 @@ use Rattle.gauge.specs.Calls.{restAnswer, windowAnswer, writeAnswer}
 use Rattle.gauge.specs.Opening.{openAnswer, openRefusal, opened}
 use Rattle.gauge.specs.declared.answer.Answer.{Answer}
 use Rattle.gauge.specs.declared.state.Gauge.{Gauge}
-use Rattle.load.specs.EveryForm.{loadAnswer}
+use Rattle.every_form.specs.EveryForm.{loadAnswer}
 use Rattle.load.specs.Load.{answerIn, formFits, loaded, rejectedAnswer}
 use Rattle.load.proofs.LoadLaws.{accepted-loads, form-length, misfit-loads, rejected-loads}
 use Rattle.refusals.specs.Refusal as Refusal

@@ -21,7 +21,7 @@ use Rattle.history.specs.Claim.{begun}
 use Rattle.history.specs.History.{afterCall, afterCalls, openedHistory}
 use Rattle.history.specs.Kept.{History}
 use Rattle.history.specs.Refused.{refusalOf}
-use Rattle.load.specs.EveryForm.{loadAnswer}
+use Rattle.every_form.specs.EveryForm.{loadAnswer}
 use Rattle.registers.specs.Map.{register}
 use Rattle.registers.specs.Whole.{wholeMap}
 use Rattle.saved.specs.Save.{savedBytes}
