@@ -2,9 +2,9 @@
 use mathlib.Core.List.{List}
 use mathlib.Core.Path.{_≡_, sym, ap, _∙_}
 use Prim.Native.Nat.{ℕ}
+use Rattle.every_form.specs.EveryForm.{loadAnswer}
 use Rattle.form.specs.Form.{formNumbered, formOf}
 use Rattle.gauge.specs.declared.state.Gauge.{Gauge}
-use Rattle.every_form.specs.EveryForm.{loadAnswer}
 use Rattle.load.specs.Fields.{chargeFrom, countersFrom, gaugeFrom, hostFrom, sampleFrom}
 use Rattle.load.specs.Load.{carriedStandby, loaded, readIn}
 use Rattle.load.proofs.LoadLaws.{loads}

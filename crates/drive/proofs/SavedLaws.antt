@@ -13,8 +13,8 @@ use Rattle.load.specs.Load.{answerIn, loaded, readIn}
 use Rattle.load.proofs.LoadLaws.{loads}
 use Rattle.load.proofs.TakenLaws.{newest-taken}
 use Rattle.refusals.specs.Refusal as Refusal
-use Rattle.saved.specs.Save.{savedBytes}
 use Rattle.round_trip.proofs.RoundTripLaws.{saved-loaded}
+use Rattle.saved.specs.Save.{savedBytes}
 use Rattle.drive.specs.Claim.{begunIn}
 
 abbrev answer : Gauge → Answer

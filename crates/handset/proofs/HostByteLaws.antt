@@ -15,8 +15,8 @@ use Rattle.gauge.specs.declared.state.Gauge.{Gauge}
 use Rattle.host.specs.Host.{stored}
 use Rattle.load.specs.Fields.{bytesIn, numberIn}
 use Rattle.load.specs.Load.{formFits, loaded}
-use Rattle.saved.specs.Save.{fieldBytes, savedBytes}
 use Rattle.round_trip.proofs.RoundTripLaws.{saved-loaded}
+use Rattle.saved.specs.Save.{fieldBytes, savedBytes}
 use Rattle.handset.specs.Keep.{hostPlace}
 
 -- ---- where it stands

@@ -7,6 +7,7 @@ use native.Mathlib.Omega.{arith}
 use lib.ListN.{getD, length}
 use borrow.Author.Tests.{eq-eqb}
 use Rattle.configuration.specs.Configuration.{dmf}
+use Rattle.every_form.specs.EveryForm.{loadAnswer}
 use Rattle.flags.specs.Byte.{flagsFit}
 use Rattle.flags.proofs.FlagsByteLaws.{byte-accepted}
 use Rattle.form.specs.Form.{Current, FormNumber, laidOut, newest, numberOf, savedLength}
@@ -17,7 +18,6 @@ use Rattle.gauge.specs.Fits.{Fits}
 use Rattle.gauge.specs.declared.answer.Answer.{Answer}
 use Rattle.gauge.specs.declared.state.Gauge.{Gauge}
 use Rattle.gauge.proofs.AcceptedLaws.{sound}
-use Rattle.every_form.specs.EveryForm.{loadAnswer}
 use Rattle.load.specs.Fields.{flagsOfGauge, numberIn}
 use Rattle.load.specs.Load.{answerIn, formFits, loaded}
 use Rattle.load.proofs.LoadLaws.{accepted-loads, form-length, loads, newest-loaded}

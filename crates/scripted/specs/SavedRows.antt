@@ -8,15 +8,15 @@ use lib.Dec.{eqb}
 use lib.ListN.{length, replicate, set, take}
 use Rattle.configuration.specs.Settings.{openedSettings}
 use Rattle.drive.specs.OlderForms.{counts, gaugeOf41}
+use Rattle.every_form.specs.EveryForm.{expectedBy, loadAnswer}
 use Rattle.form.specs.Form.{Dcr, Field, Flags, Held, Rests, Standby, form1, form4, formOf, nameNumber, newest, ofNumber, placeOf, sameName, widthOf}
 use Rattle.form.specs.InNewest.{inNewest}
 use Rattle.form.specs.Signed as Pair
 use Rattle.gauge.specs.declared.state.Gauge.{Gauge}
-use Rattle.every_form.specs.EveryForm.{expectedBy, loadAnswer}
 use Rattle.load.specs.Load.{answerIn, carriedStandby, decodedGauge, rejectedAnswer}
+use Rattle.round_trip.specs.RoundTrip.{reloadedAnswer}
 use Rattle.sample.specs.Range.{current, currentOf, temperature, voltage}
 use Rattle.saved.specs.Put.{chargePut, countersPut, headed, hostPut, numberPut, samplePut}
-use Rattle.round_trip.specs.RoundTrip.{reloadedAnswer}
 use Rattle.saved.specs.Save.{bufferAfter, putAfter, saveRefusal, savedBytes}
 use Rattle.scripted.specs.KeptRows.{form4Saved}
 use Rattle.scripted.specs.Packs.{bench, everySet, keptCharging, keptDischarging, keptForm1, keptForm4}
