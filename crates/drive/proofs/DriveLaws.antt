@@ -22,8 +22,8 @@ use Rattle.history.proofs.StayLaws.{stays-accepted}
 use Rattle.load.specs.Load.{answerIn}
 use Rattle.refusals.specs.Refusal as Refusal
 use Rattle.refusals.proofs.OrElseLaws.{first-none}
+use Rattle.round_trip.proofs.RoundTripLaws.{load-of-saved}
 use Rattle.saved.specs.Save.{lengthRefusal, savedBytes}
-use Rattle.saved.proofs.RoundTripLaws.{load-of-saved}
 use Rattle.drive.specs.Claim.{EveryDrive, Holds}
 use Rattle.drive.specs.Drive.{bytesAfter, calledBytes, calledNumber}
 

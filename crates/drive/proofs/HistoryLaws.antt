@@ -14,7 +14,8 @@ use Rattle.history.specs.Claim.{Agrees, begun}
 use Rattle.history.specs.History.{afterCalls}
 use Rattle.history.specs.Kept.{History}
 use Rattle.history.proofs.ListLaws.{from-any-gauge, opened-begun, opened-taken}
-use Rattle.load.specs.Load.{loaded, loadedCharge, loadedCounters}
+use Rattle.load.specs.Fields.{chargeFrom, countersFrom, gaugeFrom}
+use Rattle.load.specs.Load.{loaded, readIn}
 use Rattle.saved.specs.Save.{savedBytes}
 use Rattle.drive.specs.Claim.{FromOpening, FromSaved, HoldsHistory}
 use Rattle.drive.specs.Drive.{bytesAfter}
@@ -26,7 +27,7 @@ loaded-back : (g : Gauge) → Taken g → loaded newest (savedBytes g) ≡ g
 loaded-back g k = loaded-is (savedBytes g) g (loads g k)
 
 pub gauge-holds : (g : Gauge) (x : History) → Taken g → Agrees g x → HoldsHistory (savedBytes g) x
-unfolding loaded loadedCharge loadedCounters
+unfolding loaded readIn gaugeFrom chargeFrom countersFrom
 gauge-holds g x k a =
     let c = loaded-back g k in
     record {

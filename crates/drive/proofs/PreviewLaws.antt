@@ -11,7 +11,8 @@ use Rattle.form.specs.Form.{Ar, Mode, newest, numberOf}
 use Rattle.gauge.specs.declared.state.Gauge.{Gauge}
 use Rattle.handset.specs.Calls.{callBytes, callNumber, lookNumber, previewCommand, previewNumber, previewReply, readReply, writeCall}
 use Rattle.handset.proofs.PreviewLaws.{key-refused, previewed, reply-refused}
-use Rattle.load.specs.Load.{answerIn, decodedGauge, loaded, loadedHost}
+use Rattle.load.specs.Fields.{gaugeFrom, hostFrom}
+use Rattle.load.specs.Load.{answerIn, decodedGauge, loaded, readIn}
 use Rattle.load.proofs.LoadLaws.{decoded-is, loads}
 use Rattle.preview.specs.Preview.{onCopy, previewRefusal, wholeReplyRefusal}
 use Rattle.refusals.specs.Refusal as Refusal
@@ -41,7 +42,7 @@ module _ (saved : List ℕ) (small : (k : ℕ) → getD saved k 0 < 256) (key : 
 
   decoded-command : callNumber saved (writeCall 0 key) ≡ Refusal.none
       → commandOf (decide key ((decodedGauge saved) .host .mode) ((decodedGauge saved) .host .ar)) ≡ obeys
-  unfolding callNumber loaded loadedHost
+  unfolding callNumber loaded readIn gaugeFrom hostFrom
   decoded-command w =
       ap (λ (g : Gauge). commandOf (decide key (g .host .mode) (g .host .ar)))
       (decoded-is saved (loads newest saved (first-none ((answerIn newest saved) .number) _ w) .fits))

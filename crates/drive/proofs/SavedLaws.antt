@@ -8,12 +8,13 @@ use Rattle.gauge.specs.Fits.{Taken}
 use Rattle.gauge.specs.declared.answer.Answer.{Answer}
 use Rattle.gauge.specs.declared.state.Gauge.{Gauge}
 use Rattle.history.specs.Claim.{begun}
-use Rattle.load.specs.Load.{answerIn, loaded, loadedCharge, loadedCounters, loadedHost}
+use Rattle.load.specs.Fields.{chargeFrom, countersFrom, gaugeFrom, hostFrom}
+use Rattle.load.specs.Load.{answerIn, loaded, readIn}
 use Rattle.load.proofs.LoadLaws.{loads}
 use Rattle.load.proofs.TakenLaws.{newest-taken}
 use Rattle.refusals.specs.Refusal as Refusal
+use Rattle.round_trip.proofs.RoundTripLaws.{saved-loaded}
 use Rattle.saved.specs.Save.{savedBytes}
-use Rattle.saved.proofs.RoundTripLaws.{saved-loaded}
 use Rattle.drive.specs.Claim.{begunIn}
 
 abbrev answer : Gauge → Answer
@@ -21,7 +22,7 @@ answer g = record { number = Refusal.none; gauge = g }
 
 -- a history begins at what bytes of any form hold as at their gauge
 pub begun-in : (form : Form) (s : List ℕ) → begun (loaded form s) ≡ begunIn form s
-unfolding loaded loadedCharge loadedHost loadedCounters begun
+unfolding loaded readIn gaugeFrom chargeFrom hostFrom countersFrom begun
 begun-in form s = refl
 
 -- ---- the newest form

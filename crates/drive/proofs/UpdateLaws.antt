@@ -5,6 +5,7 @@ use mathlib.Core.Path.{_≡_, refl, ap, _∙_}
 use Prim.Native.Nat.{ℕ, _<_}
 use lib.ListN.{getD, length, replicate}
 use borrow.Author.Tests.{eq-eqb}
+use Rattle.every_form.specs.EveryForm.{loadAnswer}
 use Rattle.form.specs.Form.{formOf, newest, savedLength}
 use Rattle.gauge.specs.Fits.{Taken}
 use Rattle.gauge.specs.declared.state.Gauge.{Gauge}
@@ -14,14 +15,13 @@ use Rattle.history.specs.Claim.{begun}
 use Rattle.history.specs.History.{afterCalls}
 use Rattle.history.proofs.ListLaws.{from-any-gauge}
 use Rattle.history.proofs.StayLaws.{stays-accepted}
-use Rattle.load.specs.EveryForm.{loadAnswer}
 use Rattle.load.specs.Load.{answerIn, loaded}
 use Rattle.load.proofs.LoadLaws.{accepted-loads, loads}
 use Rattle.load.proofs.TakenLaws.{form-taken}
 use Rattle.refusals.specs.Refusal as Refusal
 use Rattle.refusals.proofs.OrElseLaws.{first-none}
+use Rattle.round_trip.proofs.RoundTripLaws.{newest-loads}
 use Rattle.saved.specs.Save.{lengthRefusal, savedBytes}
-use Rattle.saved.proofs.RoundTripLaws.{newest-loads}
 use Rattle.drive.specs.Claim.{HoldsHistory}
 use Rattle.drive.specs.Update.{Converted, ConvertedSame, FromUpdate, Step, bytesAfterSteps, callsOf, make, start, stepBytes}
 use Rattle.drive.proofs.DriveLaws as Drive

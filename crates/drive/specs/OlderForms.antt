@@ -5,10 +5,10 @@ use mathlib.Core.Path.{_≡_}
 use Prim.Native.Nat.{ℕ, _*_}
 use Rattle.configuration.specs.Settings.{openedSettings}
 use Rattle.counters.specs.declared.counters.Counters.{Counters}
+use Rattle.every_form.specs.EveryForm.{loadAnswer}
 use Rattle.flags.specs.Byte.{flagsOf, vdqOf}
 use Rattle.form.specs.Signed.{currentOf}
 use Rattle.gauge.specs.declared.state.Gauge.{Gauge}
-use Rattle.load.specs.EveryForm.{loadAnswer}
 use Rattle.numbers.specs.Little.{bytesAt, numberAt}
 use Rattle.refusals.specs.Refusal as Refusal
 use Rattle.registers.specs.Values.{si}

@@ -3,11 +3,11 @@ use mathlib.Core.List.{List, [], _∷_}
 use mathlib.Core.Path.{_≡_}
 use Prim.Native.Nat.{ℕ, _<_}
 use lib.ListN.{getD, length, replicate}
+use Rattle.every_form.specs.EveryForm.{loadAnswer}
 use Rattle.form.specs.Form.{formOf, newest, savedLength}
 use Rattle.handset.specs.Calls.{convertBytes, convertNumber}
 use Rattle.history.specs.Call.{Call}
 use Rattle.history.specs.History.{afterCalls}
-use Rattle.load.specs.EveryForm.{loadAnswer}
 use Rattle.load.specs.Load.{answerIn}
 use Rattle.refusals.specs.Refusal as Refusal
 use Rattle.drive.specs.Claim.{HoldsHistory, begunIn}

@@ -7,9 +7,9 @@ use Prim.Native.Nat.{ℕ}
 use lib.ListN.{take}
 use lib.Seq.{sets}
 use Rattle.configuration.specs.BenchPack.{benchPack}
+use Rattle.every_form.specs.EveryForm.{loadAnswer}
 use Rattle.gauge.specs.Accepted.{accepted}
 use Rattle.gauge.specs.declared.state.Gauge.{Gauge}
-use Rattle.load.specs.EveryForm.{loadAnswer}
 use Rattle.numbers.specs.Little.{little}
 use Rattle.sample.specs.declared.current.Current.{Current}
 use Rattle.examples.specs.Bench.{openedPack}

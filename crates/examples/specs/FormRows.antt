@@ -5,8 +5,8 @@ use Prim.Native.Nat.{ℕ}
 use lib.ListN.{length, replicate, set}
 use Rattle.configuration.specs.BenchPack.{benchPack}
 use Rattle.counters.specs.Cycles.{noCycles}
+use Rattle.every_form.specs.EveryForm.{loadAnswer}
 use Rattle.form.specs.Form.{newest}
-use Rattle.load.specs.EveryForm.{loadAnswer}
 use Rattle.load.specs.Load.{answerIn}
 use Rattle.numbers.specs.Little.{little}
 use Rattle.registers.specs.Map.{register}

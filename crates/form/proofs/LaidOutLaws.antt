@@ -8,8 +8,8 @@ use lib.Dec.{T}
 use lib.ListN.{length, length-append}
 use Rattle.numbers.specs.Little.{bytesAt}
 use Rattle.numbers.proofs.BytesLaws.{bytes-front, bytes-past}
-use Rattle.form.specs.Form.{Field, Name, has, laidOut, lengthOf, placeOf, sameName, widthOf}
-use Rattle.form.proofs.NamesLaws.{same-is}
+use Rattle.form.specs.Form.{Field, Name, laidOut, lengthOf, placeOf, sameName, widthOf}
+use Rattle.form.proofs.NamesLaws.{has, same-is}
 
 module _ (fieldBytes : Name → ℕ → List ℕ) (long : (n : Name) (width : ℕ) → length (fieldBytes n width) ≡ width) where
   pub laid-length : (fs : List Field) → length (laidOut fieldBytes fs) ≡ lengthOf fs

@@ -1,44 +1,83 @@
--- The names of fields: two with the same number are the same, and a field of a name is no wider than another form has it. Assumes nothing.
+-- The names of fields: two with the same number are the same, what holds of each field of the newest form holds of every name, and a field of a name
+-- is no wider than another form has it. Assumes nothing.
 use mathlib.Core.Bool.{Bool, true, false, _&&_, cond}
 use mathlib.Core.List.{List, [], _∷_}
-use mathlib.Core.Path.{_≡_, refl, sym, ap, _∙_}
-use Prim.Native.Nat.{ℕ, _≤_}
+use mathlib.Core.Path.{_≡_, refl, sym, ap, subst, _∙_}
+use Prim.Native.Nat.{ℕ, zero, suc, _≤_}
 use native.Mathlib.Omega.{arith}
 use lib.Dec.{T, leb}
 use lib.ListN.{getD}
 use borrow.Author.Tests.{eqb-true, leb-true}
 use Rattle.numbers.proofs.BoolLaws.{and-left, and-right}
-use Rattle.form.specs.Form.{Ar, Configuration, Current, CycleDrain, Cyct, Dcr, Flags, FormNumber, Held, Lmd, Mode, Rests, Sixteenths, Standby}
-use Rattle.form.specs.Form.{Field, Form, Name, Temperature, Voltage, has, nameNumber, sameName, widthOf}
+use Rattle.form.specs.Form.{Ar, Configuration, Current, CycleDrain, Cyct, Dcr, Flags, FormNumber, Held, Lmd, Mode, Rests, Standby, Temperature, Voltage}
+use Rattle.form.specs.Form.{Field, Form, Name, nameNumber, newest, ofBytes, ofNumber, sameName, widthOf, _takes_}
 
-names : List Name
-names =
-    FormNumber ∷ Configuration ∷ Held ∷ Dcr ∷ Lmd ∷ Standby ∷ Sixteenths ∷ Current ∷ Voltage ∷ Temperature ∷ Ar ∷ Mode ∷ Flags ∷ Rests ∷ Cyct ∷ CycleDrain ∷ []
-
+-- the name of a number: names have the order of the newest form
 nameOf : ℕ → Name
-nameOf n = getD names n FormNumber
+nameOf n = (getD (newest .fields) n (FormNumber takes 1)) .name
 
 name-back : (n : Name) → nameOf (nameNumber n) ≡ n
-unfolding nameOf names
-name-back FormNumber = refl
-name-back Configuration = refl
-name-back Held = refl
-name-back Dcr = refl
-name-back Lmd = refl
-name-back Standby = refl
-name-back Sixteenths = refl
-name-back Current = refl
-name-back Voltage = refl
-name-back Temperature = refl
-name-back Ar = refl
-name-back Mode = refl
-name-back Flags = refl
-name-back Rests = refl
-name-back Cyct = refl
-name-back CycleDrain = refl
+unfolding nameOf
+name-back (ofNumber FormNumber) = refl
+name-back (ofBytes Configuration) = refl
+name-back (ofNumber Held) = refl
+name-back (ofNumber Dcr) = refl
+name-back (ofNumber Lmd) = refl
+name-back (ofNumber Standby) = refl
+name-back (ofNumber Current) = refl
+name-back (ofNumber Voltage) = refl
+name-back (ofNumber Temperature) = refl
+name-back (ofNumber Ar) = refl
+name-back (ofNumber Mode) = refl
+name-back (ofNumber Flags) = refl
+name-back (ofNumber Rests) = refl
+name-back (ofNumber Cyct) = refl
+name-back (ofNumber CycleDrain) = refl
 
 pub same-is : (m n : Name) → sameName m n ≡ true → m ≡ n
 same-is m n e = sym (name-back m) ∙ ap nameOf (eqb-true (nameNumber m) (nameNumber n) e) ∙ name-back n
+
+-- ---- each name
+
+module _ (P : Name → Type 0) where
+  -- what is said of a name holds of each of some fields
+  abbrev pub Each : List Field → Type 0
+  Each [] = T true
+  Each (f ∷ fs) = P (f .name) × Each fs
+
+  pub each-of : ((n : Name) → P n) → (fs : List Field) → Each fs
+  each-of p [] = tt
+  each-of p (f ∷ fs) = (p (f .name), each-of p fs)
+
+  each-at : (default : Field) → P (default .name) → (fs : List Field) → Each fs → (k : ℕ) → P ((getD fs k default) .name)
+  each-at default p [] e k = p
+  each-at default p (f ∷ fs) e zero = e .0
+  each-at default p (f ∷ fs) e (suc k) = each-at default p fs (e .1) k
+
+  pub every-name : Each (newest .fields) → (n : Name) → P n
+  unfolding nameOf
+  every-name e n = subst P (name-back n) (each-at (FormNumber takes 1) (e .0) (newest .fields) e (nameNumber n))
+
+-- a test that each of the fields passes
+module _ (test : Name → Bool) where
+  abbrev allPass : List Field → Bool
+  allPass [] = true
+  allPass (f ∷ fs) = test (f .name) && allPass fs
+
+  each-passes : (fs : List Field) → allPass fs ≡ true → Each (λ (n : Name). T (test n)) fs
+  each-passes [] e = tt
+  each-passes (f ∷ fs) e =
+      (subst T (sym (and-left (test (f .name)) (allPass fs) e)) tt, each-passes fs (and-right (test (f .name)) (allPass fs) e))
+
+-- whether fields have a name
+abbrev pub has : Name → List Field → Bool
+has n [] = false
+has n (f ∷ fs) = cond (sameName n (f .name)) true (has n fs)
+
+-- the newest form has every name
+pub newest-has : (n : Name) → T (has n (newest .fields))
+newest-has n =
+    every-name (λ (m : Name). T (has m (newest .fields))) (each-passes (λ (m : Name). has m (newest .fields)) (newest .fields) refl) n
 
 -- ---- widths
 

@@ -9,13 +9,13 @@ use lib.Dec.{eqb}
 use lib.IntN.{ℤ}
 use lib.ListN.{length, replicate}
 use borrow.Author.Tests.{eq-eqb, eqb-false, eqb-true, ne-eqb}
+use Rattle.every_form.specs.EveryForm.{loadAnswer}
 use Rattle.form.specs.Form.{newest, savedLength}
 use Rattle.gauge.specs.Accepted.{accepted}
 use Rattle.gauge.specs.Calls.{restAnswer, windowAnswer, writeAnswer}
 use Rattle.gauge.specs.Opening.{openAnswer, openRefusal, opened}
 use Rattle.gauge.specs.declared.answer.Answer.{Answer}
 use Rattle.gauge.specs.declared.state.Gauge.{Gauge}
-use Rattle.load.specs.EveryForm.{loadAnswer}
 use Rattle.load.specs.Load.{answerIn, formFits, loaded, rejectedAnswer}
 use Rattle.load.proofs.LoadLaws.{accepted-loads, form-length, misfit-loads, rejected-loads}
 use Rattle.refusals.specs.Refusal as Refusal

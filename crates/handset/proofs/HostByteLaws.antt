@@ -13,9 +13,10 @@ use Rattle.gauge.specs.Calls.{storedAt, writeAnswer, writeRefusal, written}
 use Rattle.gauge.specs.declared.answer.Answer.{Answer}
 use Rattle.gauge.specs.declared.state.Gauge.{Gauge}
 use Rattle.host.specs.Host.{stored}
+use Rattle.load.specs.Fields.{bytesIn, numberIn}
 use Rattle.load.specs.Load.{formFits, loaded}
+use Rattle.round_trip.proofs.RoundTripLaws.{saved-loaded}
 use Rattle.saved.specs.Save.{fieldBytes, savedBytes}
-use Rattle.saved.proofs.RoundTripLaws.{saved-loaded}
 use Rattle.handset.specs.Keep.{hostPlace}
 
 -- ---- where it stands
@@ -35,7 +36,7 @@ place-of-high {address} n m = (simp (ne-eqb address 1 n, ne-eqb address 2 m), om
 -- ---- one byte of a saved gauge
 
 at-mode : (g : Gauge) (value : ℕ) → value < 256 → set (savedBytes g) 39 value ≡ savedBytes (storedAt 1 value g)
-unfolding savedBytes laidOut fieldBytes storedAt stored
+unfolding savedBytes laidOut fieldBytes numberIn bytesIn storedAt stored
 at-mode g value h = let e : value ≡ value % 256 = omega arith in ap (set (savedBytes g) 39) e
 
 -- the two bytes of a pair
@@ -51,7 +52,7 @@ second-digit low high h k =
     small n b = omega arith
 
 at-ar-low : (g : Gauge) (value : ℕ) → value < 256 → set (savedBytes g) 37 value ≡ savedBytes (storedAt 2 value g)
-unfolding savedBytes laidOut fieldBytes storedAt stored
+unfolding savedBytes laidOut fieldBytes numberIn bytesIn storedAt stored
 at-ar-low g value h =
     let kept : g .host .ar / 256 % 256 < 256 = omega arith in
     let low = first-digit value (g .host .ar / 256 % 256) h in
@@ -59,7 +60,7 @@ at-ar-low g value h =
     cc
 
 at-ar-high : (g : Gauge) (value : ℕ) → value < 256 → set (savedBytes g) 38 value ≡ savedBytes (storedAt 3 value g)
-unfolding savedBytes laidOut fieldBytes storedAt stored
+unfolding savedBytes laidOut fieldBytes numberIn bytesIn storedAt stored
 at-ar-high g value h =
     let same : g .host .ar / 1 % 256 ≡ g .host .ar % 256 = omega arith in
     let kept : g .host .ar / 1 % 256 < 256 = omega arith in

@@ -22,8 +22,8 @@ use Rattle.refusals.specs.Refusal as Refusal
 use Rattle.refusals.proofs.OrElseLaws.{first-none, refusal-leaves, second-none, third-unasked}
 use Rattle.registers.specs.Map.{registerCount}
 use Rattle.registers.specs.Reading as Reading
+use Rattle.round_trip.proofs.RoundTripLaws.{load-of-saved}
 use Rattle.saved.specs.Save.{savedBytes}
-use Rattle.saved.proofs.RoundTripLaws.{load-of-saved}
 use Rattle.handset.specs.Calls.{callBytes, callNumber, lookLeaves, lookNumber, previewCommand, previewNumber, previewReply, readNumber, readReply, writeCall}
 use Rattle.handset.proofs.LookLaws.{misfit-leaves, misfit-number}
 

@@ -8,12 +8,12 @@ use lib.Dec.{eqb}
 use lib.IntN.{ℤ}
 use lib.ListN.{length}
 use Rattle.estimate.specs.Estimate.{distanceAfter, estimateAfter, estimateRefusal}
+use Rattle.every_form.specs.EveryForm.{loadAnswer}
 use Rattle.form.specs.Form.{newest}
 use Rattle.gauge.specs.Calls.{restAnswer, windowAnswer, writeAnswer}
 use Rattle.gauge.specs.Opening.{openRefusal, opened}
 use Rattle.gauge.specs.declared.answer.Answer.{Answer}
 use Rattle.gauge.specs.declared.state.Gauge.{Gauge}
-use Rattle.load.specs.EveryForm.{loadAnswer}
 use Rattle.load.specs.Load.{answerIn}
 use Rattle.preview.specs.Preview as Preview
 use Rattle.preview.specs.Preview.{commandAfter, previewRefusal}

@@ -1,4 +1,2 @@
-pub mod CopiedLaws
-pub mod EveryFormLaws
 pub mod LoadLaws
 pub mod TakenLaws

@@ -1,40 +1,32 @@
--- The parts of a gauge read from bytes of the newest form, and the tests that bytes of a form pass, in their order: told of plain bytes. Assumes
--- nothing.
+-- Parts of a gauge that agree, what bytes of the newest form are read as, and the tests that bytes of a form pass, in their order: told of plain bytes.
+-- Assumes nothing.
 use mathlib.Core.Bool.{Bool, true, false, _&&_, cond}
 use mathlib.Core.List.{List, []}
 use mathlib.Core.Path.{_≡_, refl, sym, ap, _∙_}
-use Prim.Native.Nat.{ℕ}
+use Prim.Native.Nat.{ℕ, _+_, _*_}
 use native.Mathlib.Omega.{arith}
-use lib.Dec.{T, eqb}
+use lib.Dec.{eqb}
 use lib.ListN.{getD, length, replicate}
 use borrow.Author.Tests.{eq-eqb, eqb-true, ne-eqb}
 use Rattle.charge.specs.declared.charge.Charge.{Charge}
-use Rattle.flags.specs.Byte.{flagsFit, flagsOf, vdqOf}
-use Rattle.flags.specs.declared.flags.Flags as Flag
-use Rattle.form.specs.Form.{Ar, Configuration, Current, CycleDrain, Cyct, Dcr, Flags, FormNumber, Held, Lmd, Mode, Rests, Sixteenths}
-use Rattle.form.specs.Form.{Form, Name, Temperature, Voltage, bytesOf, has, lengthOf, newest, numberOf, placeOf, savedLength}
+use Rattle.flags.specs.Byte.{flagsFit}
+use Rattle.form.specs.Form.{Current, Flags, Form, FormNumber, lengthOf, newest, numberOf, ofNumber, placeOf, savedLength}
 use Rattle.form.specs.Signed.{currentOf}
-use Rattle.configuration.specs.Settings.{openedSettings}
-use Rattle.configuration.specs.declared.settings.Settings.{Settings}
-use Rattle.counters.specs.declared.counters.Counters.{Counters}
 use Rattle.counters.proofs.CountersLaws.{countersOf}
 use Rattle.counters.proofs.CyclesLaws.{cyclesOf}
 use Rattle.gauge.specs.Accepted.{accepted}
 use Rattle.gauge.specs.Opening.{openAnswer, openRefusal}
-use Rattle.gauge.specs.Parts.{gaugeOf}
 use Rattle.gauge.specs.declared.answer.Answer.{Answer}
 use Rattle.gauge.specs.declared.state.Gauge.{Gauge}
-use Rattle.gauge.proofs.GaugeLaws.{gauge-alike}
 use Rattle.host.specs.declared.host.Host.{Host}
 use Rattle.numbers.proofs.BoolLaws.{and-left, and-right}
 use Rattle.numbers.proofs.LittleLaws.{one-is}
 use Rattle.refusals.specs.Refusal as Refusal
 use Rattle.sample.specs.declared.current.Current as Amount
 use Rattle.sample.specs.declared.sample.Sample.{Sample}
-use Rattle.load.specs.Load.{acceptedAnswer, answerIn, decodedGauge, fitsAs, formFits, loaded, loadedCharge, loadedCounters, loadedHost, loadedSample}
-use Rattle.load.specs.Load.{ofLength, rejectedAnswer, standbyFits}
+use Rattle.load.specs.Load.{acceptedAnswer, answerIn, carriedStandby, decodedGauge, fitsAs, formFits, loaded, ofLength, readIn, rejectedAnswer}
 
--- ---- records whose parts agree
+-- ---- parts that agree
 
 abbrev pub chargeOf : ℕ → ℕ → Bool → ℕ → Charge
 chargeOf held lmd vdq dcr = record { held = held; lmd = lmd; run = record { vdq = vdq; dcr = dcr } }
@@ -57,71 +49,32 @@ host-alike p q = cc
 pub counters-alike : {m n k l d e : ℕ} → m ≡ n → k ≡ l → d ≡ e → countersOf m (cyclesOf k d) ≡ countersOf n (cyclesOf l e)
 counters-alike p q r = cc
 
--- bytes of the newest form and of another, field by field
-pub fields-alike : (form : Form) (a b : List ℕ) → ((n : Name) → T (has n (newest .fields)) → numberOf n newest a ≡ numberOf n form b)
-    → bytesOf Configuration newest a ≡ bytesOf Configuration form b → has Sixteenths (form .fields) ≡ true → loaded newest a ≡ loaded form b
-unfolding loaded loadedCharge loadedSample loadedHost loadedCounters
-fields-alike form a b same configuration sixteenth =
-    gauge-alike (ap openedSettings configuration) (charge-alike (same Held tt) (same Lmd tt) (ap vdqOf (same Flags tt)) (same Dcr tt))
-    (sample-alike (ap currentOf (same Current tt)) (same Voltage tt) (same Temperature tt)) (same Sixteenths tt ∙ simp sixteenth)
-    (ap flagsOf (same Flags tt)) (host-alike (same Mode tt) (same Ar tt)) (counters-alike (same Rests tt) (same Cyct tt) (same CycleDrain tt))
+-- a number of one byte, read as a byte
+pub byte-is : {b x : ℕ} → b ≡ x → b ≡ x + 256 * 0
+byte-is e = omega arith
 
--- ---- what is read
+-- ---- the tests of a length and a number
 
 module _ (bytes : List ℕ) where
-  -- FLAGS read as a byte
-  flags-is : {b : ℕ} → b ≡ getD bytes (placeOf Flags (newest .fields)) 0 → b ≡ numberOf Flags newest bytes
-  flags-is e = e ∙ sym (one-is (placeOf Flags (newest .fields)) bytes)
-
-  pub charge-is : {h d l b : ℕ} {v : Bool} → h ≡ numberOf Held newest bytes → d ≡ numberOf Dcr newest bytes → l ≡ numberOf Lmd newest bytes
-      → b ≡ getD bytes (placeOf Flags (newest .fields)) 0 → v ≡ vdqOf b → chargeOf h l v d ≡ loadedCharge newest bytes
-  unfolding loadedCharge
-  charge-is p q r s t = charge-alike p r (t ∙ ap vdqOf (flags-is s)) q
-
-  pub sample-is : {p v t : ℕ} {c : Amount.Current} → p ≡ numberOf Current newest bytes → c ≡ currentOf p → v ≡ numberOf Voltage newest bytes
-      → t ≡ numberOf Temperature newest bytes → sampleOf c v t ≡ loadedSample newest bytes
-  unfolding loadedSample
-  sample-is p q r s = sample-alike (q ∙ ap currentOf p) r s
-
-  pub host-is : {m a : ℕ} → m ≡ getD bytes (placeOf Mode (newest .fields)) 0 → a ≡ numberOf Ar newest bytes → hostOf m a ≡ loadedHost newest bytes
-  unfolding loadedHost
-  host-is p q = host-alike (p ∙ sym (one-is (placeOf Mode (newest .fields)) bytes)) q
-
-  pub counters-is : {n k d : ℕ} → n ≡ numberOf Rests newest bytes → k ≡ numberOf Cyct newest bytes → d ≡ numberOf CycleDrain newest bytes
-      → countersOf n (cyclesOf k d) ≡ loadedCounters newest bytes
-  unfolding loadedCounters
-  counters-is p q r = counters-alike p q r
-
-  pub gauge-is : {c : List ℕ} {k : Settings} {x : Charge} {s : Sample} {i b : ℕ} {f : Flag.Flags} {h : Host} {m : Counters} → c ≡ bytesOf Configuration newest bytes
-      → k ≡ openedSettings c
-      → x ≡ loadedCharge newest bytes → s ≡ loadedSample newest bytes → i ≡ numberOf Sixteenths newest bytes
-      → b ≡ getD bytes (placeOf Flags (newest .fields)) 0 → f ≡ flagsOf b → h ≡ loadedHost newest bytes → m ≡ loadedCounters newest bytes
-      → gaugeOf k x s i f h m ≡ loaded newest bytes
-  unfolding loaded
-  gauge-is o l p q r s t w z = gauge-alike (l ∙ ap openedSettings o) p q r (t ∙ ap flagsOf (flags-is s)) w z
-
-  -- ---- the tests of a length and a number
-
   module _ (number long : ℕ) where
     pub not-length : (length bytes ≡ long → ⊥) → false ≡ fitsAs number long newest bytes
     not-length h = simp (ne-eqb (length bytes) long h)
 
-    pub not-form : {b : ℕ} → length bytes ≡ long → b ≡ getD bytes (placeOf FormNumber (newest .fields)) 0 → (b ≡ number → ⊥)
+    pub not-form : {b : ℕ} → length bytes ≡ long → b ≡ getD bytes (placeOf (ofNumber FormNumber) (newest .fields)) 0 → (b ≡ number → ⊥)
         → false ≡ fitsAs number long newest bytes
     not-form {b} l e h =
-        let is : b ≡ numberOf FormNumber newest bytes = e ∙ sym (one-is (placeOf FormNumber (newest .fields)) bytes) in
+        let is : b ≡ numberOf FormNumber newest bytes = e ∙ sym (one-is (placeOf (ofNumber FormNumber) (newest .fields)) bytes) in
         simp (eq-eqb (length bytes) long l, ne-eqb (numberOf FormNumber newest bytes) number (λ z. h (is ∙ z)))
 
-    pub flags-tested : {b p d : ℕ} {c : Amount.Current} {r : Bool} → length bytes ≡ long → b ≡ getD bytes (placeOf FormNumber (newest .fields)) 0
-        → b ≡ number → p ≡ numberOf Current newest bytes → c ≡ currentOf p → d ≡ getD bytes (placeOf Flags (newest .fields)) 0
+    pub flags-tested : {b p d : ℕ} {c : Amount.Current} {r : Bool} → length bytes ≡ long → b ≡ getD bytes (placeOf (ofNumber FormNumber) (newest .fields)) 0
+        → b ≡ number → p ≡ numberOf Current newest bytes → c ≡ currentOf p → d ≡ getD bytes (placeOf (ofNumber Flags) (newest .fields)) 0
         → r ≡ flagsFit d (c .charging) → r ≡ fitsAs number long newest bytes
     flags-tested {d = d} l e n p q s t =
-        let is : numberOf FormNumber newest bytes ≡ number = one-is (placeOf FormNumber (newest .fields)) bytes ∙ sym e ∙ n in
+        let is : numberOf FormNumber newest bytes ≡ number = one-is (placeOf (ofNumber FormNumber) (newest .fields)) bytes ∙ sym e ∙ n in
         simp (eq-eqb (length bytes) long l, eq-eqb (numberOf FormNumber newest bytes) number is)
         (t ∙ ap (λ (c : Amount.Current). flagsFit d (c .charging)) (q ∙ ap currentOf p)
-        ∙ ap (λ (x : ℕ). flagsFit x ((currentOf (numberOf Current newest bytes)) .charging)) (flags-is s))
+        ∙ ap (λ (x : ℕ). flagsFit x ((currentOf (numberOf Current newest bytes)) .charging)) (byte-is s))
 
-  -- the newest form has no SI in units
   pub newest-fits : {r : Bool} → r ≡ fitsAs (newest .number) savedLength newest bytes → r ≡ formFits newest bytes
   unfolding formFits
   newest-fits e = e
@@ -136,14 +89,14 @@ module _ (bytes : List ℕ) where
   unfolding ofLength
   other-length others h = simp (ne-eqb (length bytes) savedLength h)
 
-  pub decoded-of : {source : List ℕ} {g : Gauge} → source ≡ ofLength bytes (replicate savedLength 0) → g ≡ loaded newest source → g ≡ decodedGauge bytes
+  pub decoded-of : {source : List ℕ} {g : Gauge} → source ≡ ofLength bytes (replicate savedLength 0) → g ≡ readIn newest source → g ≡ decodedGauge bytes
   unfolding decodedGauge
-  decoded-of e p = p ∙ ap (loaded newest) e
+  decoded-of e p = p ∙ ap (readIn newest) e
 
   -- bytes of the form's length hold a gauge value
-  pub decoded-whole : length bytes ≡ savedLength → decodedGauge bytes ≡ loaded newest bytes
+  pub decoded-whole : length bytes ≡ savedLength → decodedGauge bytes ≡ readIn newest bytes
   unfolding decodedGauge
-  decoded-whole l = ap (loaded newest) (sym (own-length (replicate savedLength 0) l))
+  decoded-whole l = ap (readIn newest) (sym (own-length (replicate savedLength 0) l))
 
 -- ---- the ways of a load, for every form
 
@@ -219,23 +172,23 @@ module _ (form : Form) (bytes : List ℕ) (f : formFits form bytes ≡ true) whe
   fit : Bool
   fit = flagsFit (numberOf Flags form bytes) ((currentOf (numberOf Current form bytes)) .charging)
 
-  -- all but the condition on SI in units
-  shared : (long && (first && fit)) ≡ true
-  unfolding formFits long first fit
-  shared = and-right (standbyFits form bytes) (long && (first && fit)) f
-
   pub form-length : length bytes ≡ lengthOf (form .fields)
-  unfolding long
-  form-length = eqb-true (length bytes) (lengthOf (form .fields)) (and-left long (first && fit) shared)
+  unfolding formFits long first fit
+  form-length = eqb-true (length bytes) (lengthOf (form .fields)) (and-left long (first && fit) f)
 
   pub form-first : numberOf FormNumber form bytes ≡ form .number
-  unfolding first
-  form-first = eqb-true (numberOf FormNumber form bytes) (form .number) (and-left first fit (and-right long (first && fit) shared))
+  unfolding formFits long first fit
+  form-first = eqb-true (numberOf FormNumber form bytes) (form .number) (and-left first fit (and-right long (first && fit) f))
 
   pub form-flags : flagsFit (numberOf Flags form bytes) ((currentOf (numberOf Current form bytes)) .charging) ≡ true
-  unfolding fit
-  form-flags = and-right first fit (and-right long (first && fit) shared)
+  unfolding formFits long first fit
+  form-flags = and-right first fit (and-right long (first && fit) f)
+
+-- the newest form has nothing otherwise
+pub newest-loaded : (bytes : List ℕ) → readIn newest bytes ≡ loaded newest bytes
+unfolding loaded carriedStandby
+newest-loaded bytes = refl
 
 -- bytes in the form hold a gauge value
 pub decoded-is : (bytes : List ℕ) → formFits newest bytes ≡ true → decodedGauge bytes ≡ loaded newest bytes
-decoded-is bytes f = decoded-whole bytes (form-length newest bytes f)
+decoded-is bytes f = decoded-whole bytes (form-length newest bytes f) ∙ newest-loaded bytes

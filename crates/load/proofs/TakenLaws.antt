@@ -1,45 +1,27 @@
 -- Accepted bytes of a form hold gauges of the widths that every gauge has, since no field of any form is wider. Assumes nothing.
-use mathlib.Core.Bool.{Bool, true, _&&_}
+use mathlib.Core.Bool.{true}
 use mathlib.Core.List.{List}
-use mathlib.Core.Path.{_≡_, refl, _∙_}
+use mathlib.Core.Path.{_≡_, refl}
 use Prim.Native.Nat.{ℕ, zero, suc, _<_, _^_}
 use native.Mathlib.Omega.{arith}
-use lib.Dec.{T, eqb}
+use lib.Dec.{T}
 use lib.ListN.{getD}
-use borrow.Author.Tests.{eqb-true}
-use Rattle.form.specs.Form.{Ar, Configuration, CycleDrain, Cyct, Lmd, Mode, Rests}
-use Rattle.form.specs.Form.{Form, Name, formOf, has, newest, numberOf, older, placeOf, widthOf}
-use Rattle.form.proofs.FormsLaws.{allPass, found-passes}
-use Rattle.form.proofs.NamesLaws.{noWider, width-within}
+use Rattle.form.specs.Form.{Configuration, Form, Name, fieldOf, formOf, newest, numberOf, ofBytes, ofNumber, placeOf, widthOf}
+use Rattle.form.proofs.FormsLaws.{every-form-passes}
+use Rattle.form.proofs.NamesLaws.{Each, each-of, newest-has, noWider, width-within}
 use Rattle.gauge.specs.Accepted.{accepted}
 use Rattle.gauge.specs.Fits.{Taken}
 use Rattle.gauge.proofs.AcceptedLaws.{sound}
 use Rattle.gauge.proofs.Standing.{taken}
 use Rattle.numbers.specs.Little.{bytesAt}
-use Rattle.numbers.proofs.BoolLaws.{and-left, and-right}
 use Rattle.numbers.proofs.BytesLaws.{bytes-length}
 use Rattle.numbers.proofs.LittleLaws.{number-within}
-use Rattle.load.specs.Load.{loaded, loadedCharge, loadedCounters, loadedHost}
-
--- ---- the widths of a form's fields
-
-configured : Form → Bool
-configured form = eqb (widthOf Configuration (form .fields)) 10
+use Rattle.load.specs.Fields.{chargeFrom, countersFrom, gaugeFrom, hostFrom}
+use Rattle.load.specs.Load.{loaded, readIn}
 
 -- the newest form's fields are as wide as a gauge has them
-narrow : Form → Bool
-narrow form = configured form && noWider form (newest .fields)
-
-newest-narrow : narrow newest ≡ true
-unfolding narrow configured
-newest-narrow = refl
-
-older-narrow : allPass narrow older ≡ true
-unfolding narrow configured
-older-narrow = refl
-
-form-narrow : (s : List ℕ) → narrow (formOf s) ≡ true
-form-narrow s = found-passes narrow (λ (form : Form). form .number) (getD s 0 0) older newest-narrow older-narrow
+form-narrow : (s : List ℕ) → noWider (formOf s) (newest .fields) ≡ true
+form-narrow s = every-form-passes (λ (form : Form). noWider form (newest .fields)) refl refl (getD s 0 0)
 
 -- ---- bytes from a place on
 
@@ -51,30 +33,36 @@ at-small (suc width) place s small (suc k) = at-small width (suc place) s small 
 -- ---- gauges
 
 module _ (form : Form) (s : List ℕ) (small : (k : ℕ) → getD s k 0 < 256) where
-  narrow-taken : narrow form ≡ true → accepted (loaded form s) ≡ true → Taken (loaded form s)
-  unfolding loaded loadedCharge loadedHost loadedCounters narrow configured
+  -- a number that stands in the form has room in the newest
+  abbrev HasRoom : Name → Type 0
+  HasRoom (ofNumber n) = numberOf n form s < 256 ^ widthOf (ofNumber n) (newest .fields)
+  HasRoom (ofBytes b) = T true
+
+  has-room : noWider form (newest .fields) ≡ true → (n : Name) → HasRoom n
+  has-room e (ofNumber n) =
+      let name = ofNumber n in
+      number-within (widthOf name (newest .fields)) (widthOf name (form .fields)) (placeOf name (form .fields)) s small
+      (width-within form name (newest .fields) (newest-has name) e)
+  has-room e (ofBytes b) = tt
+
+  narrow-taken : noWider form (newest .fields) ≡ true → accepted (loaded form s) ≡ true → Taken (loaded form s)
+  unfolding loaded readIn gaugeFrom chargeFrom hostFrom countersFrom
   narrow-taken e good =
-      let fields = form .fields in
-      let ten = eqb-true (widthOf Configuration fields) 10 (and-left (configured form) (noWider form (newest .fields)) e) in
-      let lmd = within Lmd tt in
-      let ar = within Ar tt in
-      let mode = within Mode tt in
+      let field = fieldOf (ofBytes Configuration) form s in
+      let rooms : Each HasRoom (newest .fields) = each-of HasRoom (has-room e) (newest .fields) in
       taken (loaded form s)
       (record {
         settings = record {
-          ten = bytes-length (widthOf Configuration fields) (placeOf Configuration fields) s ∙ ten;
-          bytes = at-small (widthOf Configuration fields) (placeOf Configuration fields) s small;
+          ten = bytes-length (widthOf (ofBytes Configuration) (newest .fields)) 0 field;
+          bytes =
+              at-small (widthOf (ofBytes Configuration) (newest .fields)) 0 field
+              (at-small (widthOf (ofBytes Configuration) (form .fields)) (placeOf (ofBytes Configuration) (form .fields)) s small);
         };
         sound = sound (loaded form s) good;
         lmd = omega arith;
         host = record { mode = omega arith; ar = omega arith };
-        counters = record { rests = within Rests tt; cyct = within Cyct tt; drain = within CycleDrain tt };
+        counters = record { rests = omega arith; cyct = omega arith; drain = omega arith };
       })
-    where
-      within : (n : Name) → T (has n (newest .fields)) → numberOf n form s < 256 ^ widthOf n (newest .fields)
-      within n h =
-          number-within (widthOf n (newest .fields)) (widthOf n (form .fields)) (placeOf n (form .fields)) s small
-          (width-within form n (newest .fields) h (and-right (configured form) (noWider form (newest .fields)) e))
 
 -- ---- bytes of any form
 
@@ -83,4 +71,4 @@ module _ (s : List ℕ) (small : (k : ℕ) → getD s k 0 < 256) where
   form-taken good = narrow-taken (formOf s) s small (form-narrow s) good
 
   pub newest-taken : accepted (loaded newest s) ≡ true → Taken (loaded newest s)
-  newest-taken good = narrow-taken newest s small newest-narrow good
+  newest-taken good = narrow-taken newest s small refl good

@@ -1,2 +1,2 @@
-pub mod EveryForm
+pub mod Fields
 pub mod Load

@@ -1,82 +1,48 @@
--- "Saved gauge" of paper 01, loading: the gauge that the bytes of a form hold, and when bytes are accepted. "Form 1 is still read, multiplied by
--- 16" (A1 of paper 02). Definitions only; assumes nothing.
-use mathlib.Core.Bool.{Bool, true, _&&_, cond}
+-- "Saved gauge" of paper 01, loading: bytes of a form are read field by field, and what was read is carried over to the gauge of the newest form.
+-- Definitions only; assumes nothing.
+use mathlib.Core.Bool.{Bool, _&&_, cond}
 use mathlib.Core.List.{List}
-use Prim.Native.Nat.{ℕ, _*_}
-use lib.Dec.{eqb, leb}
+use Prim.Native.Nat.{ℕ}
+use lib.Dec.{eqb}
 use lib.ListN.{length, replicate}
-use Rattle.charge.specs.declared.charge.Charge.{Charge}
-use Rattle.configuration.specs.Configuration.{s0}
-use Rattle.configuration.specs.Settings.{openedSettings}
-use Rattle.counters.specs.declared.counters.Counters.{Counters}
-use Rattle.flags.specs.Byte.{flagsFit, flagsOf, vdqOf}
-use Rattle.form.specs.Form.{Ar, Configuration, Current, CycleDrain, Cyct, Dcr, Flags, FormNumber, Held, Lmd, Mode, Rests, Sixteenths, Standby}
-use Rattle.form.specs.Form.{Temperature, Voltage}
-use Rattle.form.specs.Form.{Form, bytesOf, has, lengthOf, newest, numberOf, savedLength}
+use Rattle.flags.specs.Byte.{flagsFit}
+use Rattle.form.specs.Form.{Current, Flags, Form, FormNumber, Number, bytesOf, form1, lengthOf, newest, numberOf, savedLength}
 use Rattle.form.specs.Signed.{currentOf}
 use Rattle.gauge.specs.Accepted.{accepted}
 use Rattle.gauge.specs.Opening.{opened}
+use Rattle.gauge.specs.Parts.{gaugeOf}
 use Rattle.gauge.specs.declared.answer.Answer.{Answer}
 use Rattle.gauge.specs.declared.state.Gauge.{Gauge}
-use Rattle.host.specs.declared.host.Host.{Host}
 use Rattle.refusals.specs.Refusal as Refusal
-use Rattle.sample.specs.declared.sample.Sample.{Sample}
 use Rattle.standby.specs.Standby.{sixteenths}
+use Rattle.load.specs.Fields.{gaugeFrom}
 
--- ---- the gauge that bytes of a form hold
+-- ---- reading
 
-unfoldable pub loadedCharge : Form → List ℕ → Charge
-loadedCharge form bytes =
-    record {
-      held = numberOf Held form bytes;
-      lmd = numberOf Lmd form bytes;
-      run = record { vdq = vdqOf (numberOf Flags form bytes); dcr = numberOf Dcr form bytes };
-    }
+-- the numbers that stand in bytes of a form; "older forms read as 0" (A4 of paper 02), "older forms read as 0 in both" (A5): a field that a form has
+-- not is 0
+abbrev pub numbersIn : Form → List ℕ → Number → ℕ
+numbersIn form bytes n = numberOf n form bytes
 
-unfoldable pub loadedSample : Form → List ℕ → Sample
-loadedSample form bytes =
-    record {
-      current = currentOf (numberOf Current form bytes);
-      voltage = numberOf Voltage form bytes;
-      temperature = numberOf Temperature form bytes;
-    }
+-- the gauge of the values that stand there
+unfoldable pub readIn : Form → List ℕ → Gauge
+readIn form bytes = gaugeFrom (numbersIn form bytes) (λ b. bytesOf b form bytes)
 
-unfoldable pub loadedHost : Form → List ℕ → Host
-loadedHost form bytes = record { mode = numberOf Mode form bytes; ar = numberOf Ar form bytes }
+-- ---- carrying over
 
--- SI in sixteenths: "Form 1 is still read, multiplied by 16"
-abbrev pub loadedStandby : Form → List ℕ → ℕ
-loadedStandby form bytes = cond (has Sixteenths (form .fields)) (numberOf Sixteenths form bytes) (sixteenths (numberOf Standby form bytes))
+-- SI of a form by its number: "Form 1 is still read, multiplied by 16" (A1)
+unfoldable pub carriedStandby : ℕ → ℕ → ℕ
+carriedStandby number standby = cond (eqb number (form1 .number)) (sixteenths standby) standby
 
--- "older forms read as 0" (A4 of paper 02), "older forms read as 0 in both" (A5): a field that a form has not is 0
-unfoldable pub loadedCounters : Form → List ℕ → Counters
-loadedCounters form bytes =
-    record {
-      rests = numberOf Rests form bytes;
-      cycles = record { cyct = numberOf Cyct form bytes; drain = numberOf CycleDrain form bytes };
-    }
+-- what a form of that number has otherwise than the newest
+abbrev pub carried : ℕ → Gauge → Gauge
+carried number g = gaugeOf (g .settings) (g .charge) (g .sample) (carriedStandby number (g .standby)) (g .flags) (g .host) (g .counters)
 
+-- the gauge that bytes of a form hold
 unfoldable pub loaded : Form → List ℕ → Gauge
-loaded form bytes =
-    record {
-      settings = openedSettings (bytesOf Configuration form bytes);
-      charge = loadedCharge form bytes;
-      sample = loadedSample form bytes;
-      standby = loadedStandby form bytes;
-      flags = flagsOf (numberOf Flags form bytes);
-      host = loadedHost form bytes;
-      counters = loadedCounters form bytes;
-    }
+loaded form bytes = carried (form .number) (readIn form bytes)
 
 -- ---- when bytes are accepted
-
--- "SI ≤ 2 × S0", of SI in units
-abbrev pub unitsFit : ℕ → ℕ → Bool
-unitsFit s units = leb units (2 * s)
-
--- form 1 is held to that before the multiplication; the sixteenths are held to their limit with the gauge value
-abbrev pub standbyFits : Form → List ℕ → Bool
-standbyFits form bytes = cond (has Standby (form .fields)) (unitsFit (s0 (openedSettings (bytesOf Configuration form bytes))) (numberOf Standby form bytes)) true
 
 -- a length and a number, and the flags that a gauge value has no room for: "CHGS exactly if c > 0, other flag bits 0"
 abbrev pub fitsAs : ℕ → ℕ → Form → List ℕ → Bool
@@ -85,9 +51,10 @@ fitsAs number long form bytes =
     && (eqb (numberOf FormNumber form bytes) number
     && flagsFit (numberOf Flags form bytes) ((currentOf (numberOf Current form bytes)) .charging))
 
--- "length 41, form 1", and what of the form's own conditions a gauge value does not show
+-- "length 41, form 1", and what of the other conditions a gauge value does not show. Form 1's "SI ≤ 2 × S0" is "the sixteenths, at most 32 × S0" of
+-- what is carried over
 unfoldable pub formFits : Form → List ℕ → Bool
-formFits form bytes = standbyFits form bytes && fitsAs (form .number) (lengthOf (form .fields)) form bytes
+formFits form bytes = fitsAs (form .number) (lengthOf (form .fields)) form bytes
 
 -- 14, "saved bytes or gauge value rejected"; rejected bytes hold no gauge, and the answer's is that of a refused opening
 unfoldable pub rejectedAnswer : Answer
@@ -109,4 +76,4 @@ ofLength bytes others = cond (eqb (length bytes) savedLength) bytes others
 
 -- what bytes hold before they are tested; those of another length are read as zeros
 unfoldable pub decodedGauge : List ℕ → Gauge
-decodedGauge bytes = loaded newest (ofLength bytes (replicate savedLength 0))
+decodedGauge bytes = readIn newest (ofLength bytes (replicate savedLength 0))

@@ -1,3 +1,2 @@
-// The gauge that saved bytes hold: bytes of the newest form, and bytes of every older one.
-pub mod every_form;
+// The gauge that saved bytes of the newest form hold.
 pub mod load;

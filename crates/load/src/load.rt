@@ -1,6 +1,7 @@
 // Loading a gauge from bytes of the newest form.
 ghost use mathlib.Core.Path.{_≡_};
 ghost use Rattle.form.specs.Form.{newest};
+ghost use Rattle.load.specs.Fields as Fields;
 ghost use Rattle.load.specs.Load as Spec;
 use charge::charge::Charge;
 use configuration::settings::Settings;
@@ -42,7 +43,7 @@ use refusals::REJECTED;
 use sample::sample::Sample;
 
 fn loaded_charge(bytes: &[u8]) -> Charge
-    ensures { λ r. ⌜ r ≡ Spec.loadedCharge newest (now (bytes .entry)) ⌝ }
+    ensures { λ r. ⌜ r ≡ Fields.chargeFrom (Spec.numbersIn newest (now (bytes .entry))) ⌝ }
 {
     let held = eight_at(bytes, AT_HELD);
     let dcr = eight_at(bytes, AT_DCR);
@@ -53,7 +54,7 @@ fn loaded_charge(bytes: &[u8]) -> Charge
 }
 
 fn loaded_sample(bytes: &[u8]) -> Sample
-    ensures { λ r. ⌜ r ≡ Spec.loadedSample newest (now (bytes .entry)) ⌝ }
+    ensures { λ r. ⌜ r ≡ Fields.sampleFrom (Spec.numbersIn newest (now (bytes .entry))) ⌝ }
 {
     let current = current_of(two_at(bytes, AT_CURRENT));
     let voltage = two_at(bytes, AT_VOLTAGE);
@@ -66,7 +67,7 @@ fn loaded_sample(bytes: &[u8]) -> Sample
 }
 
 fn loaded_host(bytes: &[u8]) -> Host
-    ensures { λ r. ⌜ r ≡ Spec.loadedHost newest (now (bytes .entry)) ⌝ }
+    ensures { λ r. ⌜ r ≡ Fields.hostFrom (Spec.numbersIn newest (now (bytes .entry))) ⌝ }
 {
     let mode = byte_at(bytes, AT_MODE as usize);
     let ar = two_at(bytes, AT_AR);
@@ -74,7 +75,7 @@ fn loaded_host(bytes: &[u8]) -> Host
 }
 
 fn loaded_counters(bytes: &[u8]) -> Counters
-    ensures { λ r. ⌜ r ≡ Spec.loadedCounters newest (now (bytes .entry)) ⌝ }
+    ensures { λ r. ⌜ r ≡ Fields.countersFrom (Spec.numbersIn newest (now (bytes .entry))) ⌝ }
 {
     let rests = four_at(bytes, AT_RESTS);
     let cyct = two_at(bytes, AT_CYCT);
@@ -85,7 +86,7 @@ fn loaded_counters(bytes: &[u8]) -> Counters
 
 // What the bytes hold, accepted or not; a byte past their end is 0.
 fn loaded_gauge(bytes: &[u8]) -> Gauge
-    ensures { λ r. ⌜ r ≡ Spec.loaded newest (now (bytes .entry)) ⌝ }
+    ensures { λ r. ⌜ r ≡ Spec.readIn newest (now (bytes .entry)) ⌝ }
 {
     let settings = Settings::opened(ten_at(bytes, AT_CONFIGURATION));
     let charge = loaded_charge(bytes);
@@ -106,7 +107,7 @@ fn loaded_gauge(bytes: &[u8]) -> Gauge
 }
 
 // Bytes of a length and a number, with no flags but those that a gauge value has room for.
-pub(crate) fn in_form(bytes: &[u8], number: u8, length: u16) -> bool
+pub fn in_form(bytes: &[u8], number: u8, length: u16) -> bool
     ensures { λ r. ⌜ r ≡ Spec.fitsAs number length newest (now (bytes .entry)) ⌝ }
 {
     if bytes.len() != length as usize {
@@ -127,7 +128,7 @@ pub fn form_fits(bytes: &[u8]) -> bool
 }
 
 // 14, with the gauge of a refused opening: rejected bytes hold none.
-pub(crate) fn rejected() -> Answer
+pub fn rejected() -> Answer
     ensures { λ r. ⌜ r ≡ Spec.rejectedAnswer ⌝ }
 {
     let refused = open(b"");
@@ -139,7 +140,7 @@ pub(crate) fn rejected() -> Answer
 }
 
 // The gauge value that was read, or 14.
-pub(crate) fn unless_rejected(gauge: Gauge) -> Answer
+pub fn unless_rejected(gauge: Gauge) -> Answer
     ensures { λ r. ⌜ r ≡ Spec.acceptedAnswer gauge ⌝ }
 {
     if !gauge.accepted() {

@@ -1,4 +1,3 @@
 pub mod FormLaws
 pub mod PutLaws
-pub mod RoundTripLaws
 pub mod SaveLaws

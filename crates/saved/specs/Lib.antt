@@ -1,3 +1,2 @@
 pub mod Put
-pub mod RoundTrip
 pub mod Save

@@ -6,23 +6,24 @@ use lib.Seq.{sets}
 use Rattle.charge.specs.declared.charge.Charge.{Charge}
 use Rattle.configuration.specs.declared.settings.Settings.{Settings}
 use Rattle.counters.specs.declared.counters.Counters.{Counters}
-use Rattle.form.specs.Form.{Ar, Configuration, Current, CycleDrain, Cyct, Dcr, FormNumber, Held, Lmd, Mode, Name, Rests, Temperature, Voltage}
-use Rattle.form.specs.Form.{newest, placeOf, savedLength, widthOf}
+use Rattle.form.specs.Form.{Ar, Configuration, Current, CycleDrain, Cyct, Dcr, FormNumber, Held, Lmd, Mode, Rests, Temperature, Voltage}
+use Rattle.form.specs.Form.{Bytes, Number, newest, ofBytes, ofNumber, placeOf, savedLength, widthOf}
 use Rattle.form.specs.Signed.{signedPair}
 use Rattle.host.specs.declared.host.Host.{Host}
 use Rattle.numbers.specs.Little.{bytesAt, little}
 use Rattle.sample.specs.declared.sample.Sample.{Sample}
 
 -- a number in its field; the other bytes keep
-abbrev pub numberPut : Name → ℕ → List ℕ → List ℕ
-numberPut n value bytes = sets bytes (placeOf n (newest .fields)) (little (widthOf n (newest .fields)) value)
+abbrev pub numberPut : Number → ℕ → List ℕ → List ℕ
+numberPut n value bytes = sets bytes (placeOf (ofNumber n) (newest .fields)) (little (widthOf (ofNumber n) (newest .fields)) value)
 
-abbrev pub configurationPut : List ℕ → List ℕ → List ℕ
-configurationPut c bytes = sets bytes (placeOf Configuration (newest .fields)) (bytesAt (widthOf Configuration (newest .fields)) 0 c)
+-- bytes in theirs
+abbrev pub bytesPut : Bytes → List ℕ → List ℕ → List ℕ
+bytesPut b value bytes = sets bytes (placeOf (ofBytes b) (newest .fields)) (bytesAt (widthOf (ofBytes b) (newest .fields)) 0 value)
 
 -- the form's number and the "configuration", over zeros
 unfoldable pub headed : Settings → List ℕ
-headed s = configurationPut (s .bytes) (numberPut FormNumber (newest .number) (replicate savedLength 0))
+headed s = bytesPut Configuration (s .bytes) (numberPut FormNumber (newest .number) (replicate savedLength 0))
 
 -- "h and DCR .. LMD"
 unfoldable pub chargePut : Charge → List ℕ → List ℕ

@@ -1,4 +1,3 @@
-// The saved gauge: its bytes in the newest form, and both round trips.
+// The saved gauge: its bytes in the newest form.
 mod place;
-pub mod round_trip;
 pub mod save;

@@ -14,7 +14,7 @@ use Rattle.handset.specs.Calls.{callBytes, callNumber, convertBytes, convertNum
 use Rattle.handset.specs.Calls.{lookNumber, previewCommand, previewNumber, previewReply, readNumber, readReply, windowCall}
 use Rattle.handset.specs.Keep.{hostPlace, keptBytes, keptNumber}
 use Rattle.history.specs.Call.{rest}
-use Rattle.saved.specs.RoundTrip.{reloadedAnswer}
+use Rattle.round_trip.specs.RoundTrip.{reloadedAnswer}
 use Rattle.scripted.specs.Packs.{bench, everySet, keptCharging, keptDischarging, keptForm4}
 use Rattle.scripted.specs.Script.{started}
 

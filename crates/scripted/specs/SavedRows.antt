@@ -1,21 +1,22 @@
 -- What saving and loading are put together from: the parts of the bytes, the form that a first byte tells, older bytes in the places of the
 -- newest. Each number by hand, from the papers and from the bytes of `Packs`. Definitions only; assumes nothing.
-use mathlib.Core.Bool.{true, false}
+use mathlib.Core.Bool.{Bool, true, false, _&&_}
 use mathlib.Core.List.{List, [], _∷_, _++_}
 use mathlib.Core.Path.{_≡_}
 use Prim.Native.Nat.{ℕ, zero, suc, _+_, _*_}
+use lib.Dec.{eqb}
 use lib.ListN.{length, replicate, set, take}
 use Rattle.configuration.specs.Settings.{openedSettings}
 use Rattle.drive.specs.OlderForms.{counts, gaugeOf41}
-use Rattle.form.specs.Form.{Flags, Sixteenths, Standby, form1, form4, formOf, newest, placeOf, widthOf}
-use Rattle.form.specs.InNewest.{inNewest, placesOf}
+use Rattle.every_form.specs.EveryForm.{expectedBy, loadAnswer}
+use Rattle.form.specs.Form.{Dcr, Field, Flags, Held, Rests, Standby, form1, form4, formOf, nameNumber, newest, ofNumber, placeOf, sameName, widthOf}
+use Rattle.form.specs.InNewest.{inNewest}
 use Rattle.form.specs.Signed as Pair
 use Rattle.gauge.specs.declared.state.Gauge.{Gauge}
-use Rattle.load.specs.EveryForm.{carriedStandby, heldFits, toldBy}
-use Rattle.load.specs.Load.{answerIn, decodedGauge, rejectedAnswer, standbyFits}
+use Rattle.load.specs.Load.{answerIn, carriedStandby, decodedGauge, rejectedAnswer}
+use Rattle.round_trip.specs.RoundTrip.{reloadedAnswer}
 use Rattle.sample.specs.Range.{current, currentOf, temperature, voltage}
 use Rattle.saved.specs.Put.{chargePut, countersPut, headed, hostPut, numberPut, samplePut}
-use Rattle.saved.specs.RoundTrip.{reloadedAnswer}
 use Rattle.saved.specs.Save.{bufferAfter, putAfter, saveRefusal, savedBytes}
 use Rattle.scripted.specs.KeptRows.{form4Saved}
 use Rattle.scripted.specs.Packs.{bench, everySet, keptCharging, keptDischarging, keptForm1, keptForm4}
@@ -30,7 +31,12 @@ abbrev putTogether : Gauge → ℕ → List ℕ
 putTogether g flags =
     countersPut (g .counters)
     (numberPut Flags flags
-    (hostPut (g .host) (samplePut (g .sample) (numberPut Sixteenths (g .standby) (chargePut (g .charge) (headed (g .settings)))))))
+    (hostPut (g .host) (samplePut (g .sample) (numberPut Standby (g .standby) (chargePut (g .charge) (headed (g .settings)))))))
+
+-- whether fields have their names' numbers from one on
+abbrev inOrder : ℕ → List Field → Bool
+inOrder k [] = true
+inOrder k (f ∷ fs) = eqb (nameNumber (f .name)) k && inOrder (suc k) fs
 
 -- so many bytes, each three more than the one before it
 abbrev spread : ℕ → List ℕ
@@ -54,19 +60,15 @@ pub record SavedRows : Type 0 where
   pub put-parts : putTogether (started keptDischarging) 0x06 ≡ keptDischarging
   pub put-parts-charging : putTogether (started keptCharging) 0x95 ≡ keptCharging
   -- loading: the form that a first byte tells, SI of form 1 with S0 310, bytes of another length
-  pub told-1 : toldBy 1 ≡ record { number = 1; length = 41 }
-  pub told-2 : toldBy 2 ≡ record { number = 2; length = 41 }
-  pub told-3 : toldBy 3 ≡ record { number = 3; length = 43 }
-  pub told-4 : toldBy 4 ≡ record { number = 4; length = 53 }
-  pub told-5 : toldBy 5 ≡ record { number = 5; length = 55 }
-  pub told-0 : toldBy 0 ≡ record { number = 5; length = 55 }
+  pub expected-1 : expectedBy 1 ≡ record { number = 1; length = 41 }
+  pub expected-2 : expectedBy 2 ≡ record { number = 2; length = 41 }
+  pub expected-3 : expectedBy 3 ≡ record { number = 3; length = 43 }
+  pub expected-4 : expectedBy 4 ≡ record { number = 4; length = 53 }
+  pub expected-5 : expectedBy 5 ≡ record { number = 5; length = 55 }
+  pub expected-0 : expectedBy 0 ≡ record { number = 5; length = 55 }
   pub told-none : (formOf []) .number ≡ 5
-  pub units-620 : heldFits 1 310 620 ≡ true
-  pub units-621 : heldFits 1 310 621 ≡ false
-  pub sixteenths-any : heldFits 2 310 65_535 ≡ true
-  pub form-0-any : heldFits 0 310 621 ≡ true
-  pub form-1-621 : standbyFits form1 (set (set keptForm1 29 0x6D) 30 0x02) ≡ false
-  pub form-1-620 : standbyFits form1 (set (set keptForm1 29 0x6C) 30 0x02) ≡ true
+  pub form-1-621 : (loadAnswer (set (set keptForm1 29 0x6D) 30 0x02)) .number ≡ 14
+  pub form-1-620 : (loadAnswer (set (set keptForm1 29 0x6C) 30 0x02)) .number ≡ 0
   pub carried-0 : carriedStandby 0 620 ≡ 620
   pub carried-1 : carriedStandby 1 620 ≡ 9_920
   pub carried-2 : carriedStandby 2 620 ≡ 620
@@ -83,14 +85,13 @@ pub record SavedRows : Type 0 where
   pub rejected-ten : refused .settings .bytes ≡ replicate 10 0
   pub rejected-14 : rejectedAnswer .number ≡ 14
   pub rejected-bytes : savedBytes refused ≡ 5 ∷ (replicate 38 0 ++ (0x44 ∷ 0x10 ∷ replicate 14 0))
+  -- names are numbered in the order of the newest form
+  pub names-in-order : inOrder 0 (newest .fields) ≡ true
+  pub names-apart : sameName (ofNumber Held) (ofNumber Dcr) ≡ false
   -- a field that the form has not stands behind all others, without a byte
-  pub place-none : placeOf Standby (newest .fields) ≡ 55
-  pub width-none : widthOf Standby (newest .fields) ≡ 0
+  pub place-none : placeOf (ofNumber Rests) (form1 .fields) ≡ 41
+  pub width-none : widthOf (ofNumber Rests) (form1 .fields) ≡ 0
   -- form 4 in the places of form 5: two bytes 0 behind its count
-  pub places-41 : (placesOf 41) .number ≡ 2
-  pub places-43 : (placesOf 43) .number ≡ 3
-  pub places-53 : (placesOf 53) .number ≡ 4
-  pub places-55 : (placesOf 55) .number ≡ 5
   pub in-newest : inNewest form4 keptForm4 ≡ set form4Saved 0 4
   -- the places of the first 41 bytes, of bytes that differ at each place: 3 × place + 1
   pub places-apart : gaugeOf41 (spread 55) 7 (counts 8 9 10)

@@ -11,6 +11,7 @@ use lib.ListN.{length, replicate}
 use Rattle.charge.specs.declared.charge.Charge.{Charge}
 use Rattle.drive.specs.Claim.{begunIn}
 use Rattle.drive.specs.Drive.{bytesAfter, calledBytes, calledNumber}
+use Rattle.every_form.specs.EveryForm.{loadAnswer}
 use Rattle.form.specs.Form.{formOf}
 use Rattle.gauge.specs.Opening.{openAnswer}
 use Rattle.gauge.specs.declared.state.Gauge.{Gauge}
@@ -21,7 +22,6 @@ use Rattle.history.specs.Claim.{begun}
 use Rattle.history.specs.History.{afterCall, afterCalls, openedHistory}
 use Rattle.history.specs.Kept.{History}
 use Rattle.history.specs.Refused.{refusalOf}
-use Rattle.load.specs.EveryForm.{loadAnswer}
 use Rattle.registers.specs.Map.{register}
 use Rattle.registers.specs.Whole.{wholeMap}
 use Rattle.saved.specs.Save.{savedBytes}

@@ -6,6 +6,7 @@ use Rattle.configuration.specs.Configuration.{dcompTaken, openedMode}
 use Rattle.configuration.specs.Settings.{settingsAccepted}
 use Rattle.counters.specs.Counters.{countersAccepted, openedCounters}
 use Rattle.counters.specs.Cycles.{cyclesAccepted, noCycles}
+use Rattle.every_form.specs.EveryForm.{loadAnswer}
 use Rattle.flags.specs.Byte.{flagsByte, flagsFit, flagsOf}
 use Rattle.form.specs.Form.{laidOut}
 use Rattle.form.specs.Signed.{currentOf, signedPair}
@@ -13,8 +14,8 @@ use Rattle.gauge.specs.Accepted.{accepted}
 use Rattle.gauge.specs.Opening.{opened}
 use Rattle.grains.specs.Run.{runAccepted}
 use Rattle.host.specs.Host.{openedHost}
-use Rattle.load.specs.EveryForm.{loadAnswer}
-use Rattle.load.specs.Load.{acceptedAnswer, answerIn, formFits, loaded, loadedCharge, loadedCounters, loadedHost, loadedSample, rejectedAnswer}
+use Rattle.load.specs.Fields.{bytesIn, chargeFrom, countersFrom, gaugeFrom, hostFrom, numberIn, sampleFrom}
+use Rattle.load.specs.Load.{acceptedAnswer, answerIn, carriedStandby, formFits, loaded, readIn, rejectedAnswer}
 use Rattle.registers.specs.Map.{lookUp, register, rows}
 use Rattle.registers.specs.Times.{artte, stte, tte, ttf}
 use Rattle.registers.specs.Values.{fcac, reduction, rsoc, usableAt}
@@ -28,10 +29,10 @@ use Rattle.examples.proofs.proved_forms.Tie as tie
 
 returns : tie.Need-returns
 unfolding chargeAccepted openedCharge adcgn dcmp dt minutes offsetTerm rateTerm dcompTaken openedMode settingsAccepted countersAccepted
-    openedCounters cyclesAccepted noCycles flagsByte flagsFit flagsOf laidOut currentOf signedPair accepted opened runAccepted openedHost loadAnswer
-    acceptedAnswer answerIn formFits loaded loadedCharge loadedCounters loadedHost loadedSample rejectedAnswer lookUp register rows artte stte tte
-    ttf fcac reduction rsoc usableAt charge discharge zeroOrWithin currentAccepted noSample sampleAccepted fieldBytes savedBytes shown
-    standbyAccepted
+    openedCounters cyclesAccepted noCycles loadAnswer flagsByte flagsFit flagsOf laidOut currentOf signedPair accepted opened runAccepted openedHost
+    bytesIn chargeFrom countersFrom gaugeFrom hostFrom numberIn sampleFrom acceptedAnswer answerIn carriedStandby formFits loaded readIn
+    rejectedAnswer lookUp register rows artte stte tte ttf fcac reduction rsoc usableAt charge discharge zeroOrWithin currentAccepted noSample
+    sampleAccepted fieldBytes savedBytes shown standbyAccepted
 returns c =
     record {
       length-41 = refl;

@@ -23,6 +23,7 @@ use Rattle.counters.specs.Cycles.{cyclesAccepted, cyclesMoved, cyctAfter, drain
 use Rattle.drive.specs.Drive.{bytesAfter, calledBytes, calledNumber}
 use Rattle.drive.specs.Update.{bytesAfterSteps, callsOf, stepBytes}
 use Rattle.estimate.specs.Estimate.{distanceAfter, distanceFrom, estimateAfter, estimateRefusal, estimated}
+use Rattle.every_form.specs.EveryForm.{loadAnswer}
 use Rattle.flags.specs.Byte.{flagsByte, flagsFit, flagsOf}
 use Rattle.flags.specs.Flags.{atEdv1, atEdvf, atTaught, clearedIf, flagsObeyed}
 use Rattle.form.specs.Form.{laidOut}
@@ -57,8 +58,8 @@ use Rattle.lines.specs.Reading as Reading
 use Rattle.lines.specs.Reading.{goesOn, readAs, spaced}
 use Rattle.lines.specs.Text.{linesOf}
 use Rattle.lines.specs.Word.{digitFed, firstFed, grown, wordFed, wordNumber}
-use Rattle.load.specs.EveryForm.{carriedStandby, heldFits, loadAnswer}
-use Rattle.load.specs.Load.{acceptedAnswer, answerIn, decodedGauge, formFits, loaded, loadedCharge, loadedCounters, loadedHost, loadedSample, ofLength, rejectedAnswer}
+use Rattle.load.specs.Fields.{bytesIn, chargeFrom, countersFrom, gaugeFrom, hostFrom, numberIn, sampleFrom}
+use Rattle.load.specs.Load.{acceptedAnswer, answerIn, carriedStandby, decodedGauge, formFits, loaded, ofLength, readIn, rejectedAnswer}
 use Rattle.permille.specs.Rule.{rule}
 use Rattle.permille.specs.Table.{inTable, permille}
 use Rattle.preview.specs.Preview as Preview
@@ -73,12 +74,12 @@ use Rattle.registers.specs.Reading.{placeRefusal, readRefusal}
 use Rattle.registers.specs.Times.{artte, stte, tte, ttf}
 use Rattle.registers.specs.Values.{fcac, reduction, rsoc, usableAt}
 use Rattle.registers.specs.Whole.{allAnswer}
+use Rattle.round_trip.specs.RoundTrip.{reloadedAnswer}
 use Rattle.sample.specs.Current.{charge, counted, discharge}
 use Rattle.sample.specs.Limits.{zeroOrWithin}
 use Rattle.sample.specs.Range.{between, currentInRange, valueBetween}
 use Rattle.sample.specs.Sample.{currentAccepted, noSample, sampleAccepted, sampleObeyed, sampleRested}
 use Rattle.saved.specs.Put.{chargePut, countersPut, headed, hostPut, samplePut}
-use Rattle.saved.specs.RoundTrip.{reloadedAnswer}
 use Rattle.saved.specs.Save.{bufferAfter, fieldBytes, putAfter, saveRefusal, savedBytes}
 use Rattle.standby.specs.Standby.{averaged, shown, standbyAccepted, standbyObeyed}
 use Rattle.scripted.proofs.proved_scripts.Statement.{statement}
@@ -91,19 +92,19 @@ unfolding endedAt Feed.fed fedAt isEnded lastOutput lastOutputAt afterFirst fedF
     restedOnce leakedAtOnce commandOf decide decideBy highestCommandBit adcgn dcmp dt minutes offsetTerm rateTerm dcmpUnaged dcompTaken openedMode
     settingsAccepted countersAccepted countersMoved countersObeyed countersRested openedCounters cyclesAccepted cyclesMoved cyctAfter drainWith
     noCycles bytesAfter calledBytes calledNumber bytesAfterSteps callsOf stepBytes distanceAfter distanceFrom estimateAfter estimateRefusal
-    estimated flagsByte flagsFit flagsOf atEdv1 atEdvf atTaught clearedIf flagsObeyed laidOut inNewest widened currentOf signedPair accepted
-    keyAnswer restAnswer storedAt windowAnswer writeAnswer writeRefusal written decided obeyed openAnswer openRefusal opened rest window band leak
-    leakRate reached weight learned restLeak drained runAccepted unlessPassed callBytes callNumber convertBytes convertNumber lookLeaves lookNumber
-    openBytes openNumber hostPlace keptBytes keptNumber afterEmptyStop afterFull afterRest afterRestWindow afterRun afterSetting afterSums
-    afterVoltage afterWindow leakNow after gaugeAfter numberOf begun gains unlessAbove afterCall afterCalls afterCommand afterKey afterWork
-    afterWrite hostAfter startedHistory refusalOf chargeOf countedCurrent qualifies reachesE1 reachesEdvf reachesFull stopsEmpty commanded
+    estimated loadAnswer flagsByte flagsFit flagsOf atEdv1 atEdvf atTaught clearedIf flagsObeyed laidOut inNewest widened currentOf signedPair
+    accepted keyAnswer restAnswer storedAt windowAnswer writeAnswer writeRefusal written decided obeyed openAnswer openRefusal opened rest window
+    band leak leakRate reached weight learned restLeak drained runAccepted unlessPassed callBytes callNumber convertBytes convertNumber lookLeaves
+    lookNumber openBytes openNumber hostPlace keptBytes keptNumber afterEmptyStop afterFull afterRest afterRestWindow afterRun afterSetting
+    afterSums afterVoltage afterWindow leakNow after gaugeAfter numberOf begun gains unlessAbove afterCall afterCalls afterCommand afterKey
+    afterWork afterWrite hostAfter startedHistory refusalOf chargeOf countedCurrent qualifies reachesE1 reachesEdvf reachesFull stopsEmpty commanded
     commandsCleared fullIf hostObeyed initCleared openedHost stored decimal decimalWithin joined line three words allDigits number ranged unsigned
-    valueFrom placeAfter putAt Reading.fed goesOn readAs spaced linesOf digitFed firstFed grown wordFed wordNumber carriedStandby heldFits
-    loadAnswer acceptedAnswer answerIn decodedGauge formFits loaded loadedCharge loadedCounters loadedHost loadedSample ofLength rejectedAnswer rule
+    valueFrom placeAfter putAt Reading.fed goesOn readAs spaced linesOf digitFed firstFed grown wordFed wordNumber bytesIn chargeFrom countersFrom
+    gaugeFrom hostFrom numberIn sampleFrom acceptedAnswer answerIn carriedStandby decodedGauge formFits loaded ofLength readIn rejectedAnswer rule
     inTable permille commandAfter previewRefusal Preview.replyAfter chargeAfter reachedIn summed endingOf mayTeach isFull chargeEnded chargeReached
     filledIf flagsEnded reachedBy lookUp register registersFrom rows placeRefusal readRefusal Reading′.replyAfter artte stte tte ttf fcac reduction
-    rsoc usableAt allAnswer charge counted discharge zeroOrWithin between currentInRange valueBetween currentAccepted noSample sampleAccepted
-    sampleObeyed sampleRested chargePut countersPut headed hostPut samplePut reloadedAnswer bufferAfter fieldBytes putAfter saveRefusal savedBytes
+    rsoc usableAt allAnswer reloadedAnswer charge counted discharge zeroOrWithin between currentInRange valueBetween currentAccepted noSample
+    sampleAccepted sampleObeyed sampleRested chargePut countersPut headed hostPut samplePut bufferAfter fieldBytes putAfter saveRefusal savedBytes
     averaged shown standbyAccepted standbyObeyed
 returns c =
     record {
@@ -470,17 +471,13 @@ returns c =
         put-head = refl;
         put-parts = refl;
         put-parts-charging = refl;
-        told-1 = refl;
-        told-2 = refl;
-        told-3 = refl;
-        told-4 = refl;
-        told-5 = refl;
-        told-0 = refl;
+        expected-1 = refl;
+        expected-2 = refl;
+        expected-3 = refl;
+        expected-4 = refl;
+        expected-5 = refl;
+        expected-0 = refl;
         told-none = refl;
-        units-620 = refl;
-        units-621 = refl;
-        sixteenths-any = refl;
-        form-0-any = refl;
         form-1-621 = refl;
         form-1-620 = refl;
         carried-0 = refl;
@@ -497,12 +494,10 @@ returns c =
         rejected-ten = refl;
         rejected-14 = refl;
         rejected-bytes = refl;
+        names-in-order = refl;
+        names-apart = refl;
         place-none = refl;
         width-none = refl;
-        places-41 = refl;
-        places-43 = refl;
-        places-53 = refl;
-        places-55 = refl;
         in-newest = refl;
         places-apart = refl;
       };

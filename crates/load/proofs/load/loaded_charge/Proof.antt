@@ -1,6 +1,8 @@
 -- The fields that are read. Assumes nothing.
-use denote.Ref.{now}
-use Rattle.load.proofs.LoadLaws.{charge-is}
+use mathlib.Core.Path.{ap, _∙_}
+use Rattle.flags.specs.Byte.{vdqOf}
+use Rattle.load.specs.Fields.{chargeFrom}
+use Rattle.load.proofs.LoadLaws.{byte-is, charge-alike}
 use borrow.Author.Needs.{needs}
 use Rattle.load.proofs.load.loaded_charge.Statement.{statement}
 use Rattle.load.proofs.load.loaded_charge.Tie as tie
@@ -24,13 +26,13 @@ vdq-of-requires : tie.Need-vdq-of-requires
 vdq-of-requires c κs = search needs
 
 returns : tie.Need-returns
+unfolding chargeFrom
 returns c =
     let p1 = c .before in
     let p2 = p1 .before in
     let p3 = p2 .before in
     let p4 = p3 .before in
-    charge-is (now (p4 .before .before .args .bytes)) (p4 .eight-at .ensures) (p3 .eight-at2 .ensures) (p2 .two-at .ensures) (p1 .byte-at .ensures)
-    (c .vdq-of .ensures)
+    charge-alike (p4 .eight-at .ensures) (p2 .two-at .ensures) (c .vdq-of .ensures ∙ ap vdqOf (byte-is (p1 .byte-at .ensures))) (p3 .eight-at2 .ensures)
 
 pub loaded-charge-spec : {M : Type 1} → statement M
 loaded-charge-spec =

@@ -1,6 +1,6 @@
 -- The fields that are read. Assumes nothing.
-use denote.Ref.{now}
-use Rattle.load.proofs.LoadLaws.{counters-is}
+use Rattle.load.specs.Fields.{countersFrom}
+use Rattle.load.proofs.LoadLaws.{counters-alike}
 use borrow.Author.Needs.{needs}
 use Rattle.load.proofs.load.loaded_counters.Statement.{statement}
 use Rattle.load.proofs.load.loaded_counters.Tie as tie
@@ -15,10 +15,11 @@ eight-at-requires : tie.Need-eight-at-requires
 eight-at-requires c κs = search needs
 
 returns : tie.Need-returns
+unfolding countersFrom
 returns c =
     let p = c .before in
     let q = p .before in
-    counters-is (now (q .before .before .args .bytes)) (q .four-at .ensures) (p .two-at .ensures) (c .eight-at .ensures)
+    counters-alike (q .four-at .ensures) (p .two-at .ensures) (c .eight-at .ensures)
 
 pub loaded-counters-spec : {M : Type 1} → statement M
 loaded-counters-spec = tie.close (tie.spec four-at-requires two-at-requires eight-at-requires returns)

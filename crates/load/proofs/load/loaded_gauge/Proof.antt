@@ -1,6 +1,11 @@
 -- The parts that are read. Assumes nothing.
-use denote.Ref.{now}
-use Rattle.load.proofs.LoadLaws.{gauge-is}
+use mathlib.Core.Path.{ap, _∙_}
+use Rattle.configuration.specs.Settings.{openedSettings}
+use Rattle.flags.specs.Byte.{flagsOf}
+use Rattle.gauge.proofs.GaugeLaws.{gauge-alike}
+use Rattle.load.specs.Fields.{gaugeFrom}
+use Rattle.load.specs.Load.{readIn}
+use Rattle.load.proofs.LoadLaws.{byte-is}
 use borrow.Author.Needs.{needs}
 use Rattle.load.proofs.load.loaded_gauge.Statement.{statement}
 use Rattle.load.proofs.load.loaded_gauge.Tie as tie
@@ -36,6 +41,7 @@ loaded-counters-requires : tie.Need-loaded-counters-requires
 loaded-counters-requires c κs = search needs
 
 returns : tie.Need-returns
+unfolding readIn gaugeFrom
 returns c =
     let p0 = c .before in
     let p1 = p0 .before in
@@ -44,9 +50,8 @@ returns c =
     let p4 = p3 .before in
     let p5 = p4 .before in
     let p6 = p5 .before in
-    let p7 = p6 .before in
-    gauge-is (now (p7 .before .before .args .bytes)) (p7 .ten-at .ensures) (p6 .opened .ensures) (p5 .loaded-charge .ensures) (p4 .loaded-sample .ensures) (p3 .two-at .ensures)
-    (p2 .byte-at .ensures) (p1 .flags-of .ensures) (p0 .loaded-host .ensures) (c .loaded-counters .ensures)
+    gauge-alike (p6 .opened .ensures ∙ ap openedSettings (p6 .before .ten-at .ensures)) (p5 .loaded-charge .ensures) (p4 .loaded-sample .ensures) (p3 .two-at .ensures)
+    (p1 .flags-of .ensures ∙ ap flagsOf (byte-is (p2 .byte-at .ensures))) (p0 .loaded-host .ensures) (c .loaded-counters .ensures)
 
 pub loaded-gauge-spec : {M : Type 1} → statement M
 loaded-gauge-spec =

@@ -1,6 +1,6 @@
 -- The fields that are read. Assumes nothing.
-use denote.Ref.{now}
-use Rattle.load.proofs.LoadLaws.{host-is}
+use Rattle.load.specs.Fields.{hostFrom}
+use Rattle.load.proofs.LoadLaws.{byte-is, host-alike}
 use borrow.Author.Needs.{needs}
 use Rattle.load.proofs.load.loaded_host.Statement.{statement}
 use Rattle.load.proofs.load.loaded_host.Tie as tie
@@ -15,9 +15,8 @@ two-at-requires : tie.Need-two-at-requires
 two-at-requires c κs = search needs
 
 returns : tie.Need-returns
-returns c =
-    let p = c .before in
-    host-is (now (p .before .before .args .bytes)) (p .byte-at .ensures) (c .two-at .ensures)
+unfolding hostFrom
+returns c = host-alike (byte-is (c .before .byte-at .ensures)) (c .two-at .ensures)
 
 pub loaded-host-spec : {M : Type 1} → statement M
 loaded-host-spec = tie.close (tie.spec cast-byte-at byte-at-requires two-at-requires returns)

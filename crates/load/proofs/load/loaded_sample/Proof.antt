@@ -1,6 +1,8 @@
 -- The fields that are read. Assumes nothing.
-use denote.Ref.{now}
-use Rattle.load.proofs.LoadLaws.{sample-is}
+use mathlib.Core.Path.{ap, _∙_}
+use Rattle.form.specs.Signed.{currentOf}
+use Rattle.load.specs.Fields.{sampleFrom}
+use Rattle.load.proofs.LoadLaws.{sample-alike}
 use borrow.Author.Needs.{needs}
 use Rattle.load.proofs.load.loaded_sample.Statement.{statement}
 use Rattle.load.proofs.load.loaded_sample.Tie as tie
@@ -18,11 +20,11 @@ two-at-requires-3 : tie.Need-two-at-requires-3
 two-at-requires-3 c κs = search needs
 
 returns : tie.Need-returns
+unfolding sampleFrom
 returns c =
     let p1 = c .before in
     let p2 = p1 .before in
-    let p3 = p2 .before in
-    sample-is (now (p3 .before .before .args .bytes)) (p3 .two-at .ensures) (p2 .current-of .ensures) (p1 .two-at2 .ensures) (c .two-at3 .ensures)
+    sample-alike (p2 .current-of .ensures ∙ ap currentOf (p2 .before .two-at .ensures)) (p1 .two-at2 .ensures) (c .two-at3 .ensures)
 
 pub loaded-sample-spec : {M : Type 1} → statement M
 loaded-sample-spec =

@@ -1,7 +1,6 @@
 -- The fields, one after the other. Assumes nothing.
-use mathlib.Core.Path.{_∙_, ap}
-use Rattle.form.specs.Form.{Dcr, Lmd}
-use Rattle.saved.specs.Put.{chargePut, numberPut}
+use mathlib.Core.Path.{_∙_}
+use Rattle.saved.specs.Put.{chargePut}
 use borrow.Author.Needs.{needs}
 use Rattle.saved.proofs.save.put_charge.Statement.{statement}
 use Rattle.saved.proofs.save.put_charge.Tie as tie
@@ -20,8 +19,7 @@ unfolding chargePut
 returns c =
     let p = c .before .before in
     let o = p .before .before in
-    let x = o .before .before .args .charge in
-    c .put-two .ensures ∙ ap (numberPut Lmd (x .lmd)) (p .put-eight2 .ensures ∙ ap (numberPut Dcr (x .run .dcr)) (o .put-eight .ensures))
+    c .put-two .ensures ∙ simp (p .put-eight2 .ensures, o .put-eight .ensures)
 
 pub put-charge-spec : {M : Type 1} → statement M
 put-charge-spec =

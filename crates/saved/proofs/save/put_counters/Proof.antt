@@ -1,7 +1,6 @@
 -- The fields, one after the other. Assumes nothing.
-use mathlib.Core.Path.{_∙_, ap}
-use Rattle.form.specs.Form.{CycleDrain, Cyct}
-use Rattle.saved.specs.Put.{countersPut, numberPut}
+use mathlib.Core.Path.{_∙_}
+use Rattle.saved.specs.Put.{countersPut}
 use borrow.Author.Needs.{needs}
 use Rattle.saved.proofs.save.put_counters.Statement.{statement}
 use Rattle.saved.proofs.save.put_counters.Tie as tie
@@ -20,7 +19,7 @@ unfolding countersPut
 returns c =
     let p = c .before .before in
     let q = p .before .before in
-    c .put-eight .ensures ∙ ap (numberPut CycleDrain _) (p .put-two .ensures ∙ ap (numberPut Cyct _) (q .put-four .ensures))
+    c .put-eight .ensures ∙ simp (p .put-two .ensures, q .put-four .ensures)
 
 pub put-counters-spec : {M : Type 1} → statement M
 put-counters-spec = tie.close (tie.spec put-four-requires put-two-requires put-eight-requires returns)

@@ -1,7 +1,6 @@
 -- The fields, one after the other. Assumes nothing.
-use mathlib.Core.Path.{_∙_, ap}
-use Rattle.form.specs.Form.{Mode}
-use Rattle.saved.specs.Put.{hostPut, numberPut}
+use mathlib.Core.Path.{_∙_}
+use Rattle.saved.specs.Put.{hostPut}
 use borrow.Author.Needs.{needs}
 use Rattle.saved.proofs.save.put_host.Statement.{statement}
 use Rattle.saved.proofs.save.put_host.Tie as tie
@@ -16,8 +15,7 @@ returns : tie.Need-returns
 unfolding hostPut
 returns c =
     let p = c .before .before in
-    let x = p .before .before .args .host in
-    c .put-one .ensures ∙ ap (numberPut Mode (x .mode)) (p .put-two .ensures)
+    c .put-one .ensures ∙ simp (p .put-two .ensures)
 
 pub put-host-spec : {M : Type 1} → statement M
 put-host-spec = tie.close (tie.spec put-two-requires put-one-requires returns)

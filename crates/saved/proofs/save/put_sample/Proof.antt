@@ -1,9 +1,6 @@
 -- The fields, one after the other. Assumes nothing.
-use mathlib.Core.Path.{_∙_, ap}
-use Prim.Native.Nat.{ℕ}
-use denote.Ref.{now}
-use Rattle.form.specs.Form.{Current, Temperature, Voltage}
-use Rattle.saved.specs.Put.{numberPut, samplePut}
+use mathlib.Core.Path.{_∙_}
+use Rattle.saved.specs.Put.{samplePut}
 use borrow.Author.Needs.{needs}
 use Rattle.saved.proofs.save.put_sample.Statement.{statement}
 use Rattle.saved.proofs.save.put_sample.Tie as tie
@@ -26,10 +23,7 @@ returns c =
     let p = c .before .before in
     let o = p .before .before in
     let s = o .before in
-    let a = s .before .before .before .args in
-    let x = a .sample in
-    c .put-two3 .ensures ∙ ap (numberPut Temperature (x .temperature)) (p .put-two2 .ensures ∙ ap (numberPut Voltage (x .voltage))
-    (o .put-two .ensures ∙ ap (λ (n : ℕ). numberPut Current n (now (a .bytes))) (s .signed-pair .ensures)))
+    c .put-two3 .ensures ∙ simp (p .put-two2 .ensures, o .put-two .ensures, s .signed-pair .ensures)
 
 pub put-sample-spec : {M : Type 1} → statement M
 put-sample-spec =

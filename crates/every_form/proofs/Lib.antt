@@ -1,0 +1,2 @@
+pub mod CopiedLaws
+pub mod EveryFormLaws

@@ -1,0 +1,2 @@
+// Both round trips of the saved bytes.
+pub mod round_trip;
