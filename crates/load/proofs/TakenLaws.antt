@@ -12,7 +12,7 @@ use Rattle.form.proofs.NamesLaws.{Each, each-of, newest-has, noWider, width-wit
 use Rattle.gauge.specs.Accepted.{accepted}
 use Rattle.gauge.specs.Fits.{Taken}
 use Rattle.gauge.proofs.AcceptedLaws.{sound}
-use Rattle.gauge.proofs.Standing.{taken}
+use Rattle.gauge.proofs.TakenLaws.{gauge-taken}
 use Rattle.numbers.specs.Little.{bytesAt}
 use Rattle.numbers.proofs.BytesLaws.{bytes-length}
 use Rattle.numbers.proofs.LittleLaws.{number-within}
@@ -50,19 +50,16 @@ module _ (form : Form) (s : List ℕ) (small : (k : ℕ) → getD s k 0 < 256) w
   narrow-taken e good =
       let field = fieldOf (ofBytes Configuration) form s in
       let rooms : Each HasRoom (newest .fields) = each-of HasRoom (has-room e) (newest .fields) in
-      taken (loaded form s)
+      gauge-taken (loaded form s) (sound (loaded form s) good)
       (record {
-        settings = record {
-          ten = bytes-length (widthOf (ofBytes Configuration) (newest .fields)) 0 field;
-          bytes =
-              at-small (widthOf (ofBytes Configuration) (newest .fields)) 0 field
-              (at-small (widthOf (ofBytes Configuration) (form .fields)) (placeOf (ofBytes Configuration) (form .fields)) s small);
-        };
-        sound = sound (loaded form s) good;
-        lmd = omega arith;
-        host = record { mode = omega arith; ar = omega arith };
-        counters = record { rests = omega arith; cyct = omega arith; drain = omega arith };
+        ten = bytes-length (widthOf (ofBytes Configuration) (newest .fields)) 0 field;
+        bytes =
+            at-small (widthOf (ofBytes Configuration) (newest .fields)) 0 field
+            (at-small (widthOf (ofBytes Configuration) (form .fields)) (placeOf (ofBytes Configuration) (form .fields)) s small);
       })
+      (record { held = omega arith; dcr = omega arith; lmd = omega arith })
+      (record { mode = omega arith; ar = omega arith })
+      (record { rests = omega arith; cyct = omega arith; drain = omega arith })
 
 -- ---- bytes of any form
 

@@ -66,7 +66,7 @@ pub fits-each : (g : Gauge) → Fits g → FieldsFit g
 unfolding numberIn bytesIn
 fits-each g f =
     let flags = byte-fits (g .sample .current .charging) (g .charge .run .vdq) (g .flags) in
-    let pair = pair-fits (g .sample .current) (f .magnitude) in
+    let pair = pair-fits (g .sample .current) (f .sample .magnitude) in
     let ten = f .settings .ten in
     omega arith
 
