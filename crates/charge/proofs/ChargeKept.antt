@@ -15,7 +15,7 @@ use Rattle.grains.specs.Grains.{grainsOfCurrent}
 use Rattle.grains.specs.Leak.{leak, leakRate}
 use Rattle.grains.specs.Run.{drained}
 use Rattle.grains.proofs.LeakLaws.{leak-rate-within, leak-within}
-use Rattle.sample.specs.Current.{charge, discharge}
+use Rattle.sample.specs.Current.{chargeCurrent, dischargeCurrent}
 use Rattle.sample.specs.declared.current.Current.{Current}
 use Rattle.sample.proofs.CurrentLaws.{charge-within}
 use Rattle.charge.specs.Charge.{drawn, filled, heldMoved, leaked, moved, openedCharge, raised, withoutRun}
@@ -62,16 +62,16 @@ module _ (y : Charge) (b : ChargeTaken y) (rate : ℕ) (low : rate ≤ 1_920) wh
   module _ (c : Current) where
     -- what is held after the sums: the empty stop is where the difference stops at 0
     pub moved-held : c .magnitude ≤ 65_535 → (moved c (leaked rate y)) .held
-        ≡ (y .held + grainsOfCurrent (charge c)) - (leak (y .held) rate + grainsOfCurrent (discharge c))
+        ≡ (y .held + grainsOfCurrent (chargeCurrent c)) - (leak (y .held) rate + grainsOfCurrent (dischargeCurrent c))
     unfolding moved leaked heldMoved
     moved-held small =
         let h = leak-most in
         let i = charge-within c in
         let w = b .sound .within in
         let m = b .fits .lmd in
-        let d = stop-is-difference (ltb 0 (discharge c)) (raised c (y .held - leak (y .held) rate)) (drawn c) in
+        let d = stop-is-difference (ltb 0 (dischargeCurrent c)) (raised c (y .held - leak (y .held) rate)) (drawn c) in
         let e : raised c (y .held - leak (y .held) rate) - drawn c
-        ≡ (y .held + grainsOfCurrent (charge c)) - (leak (y .held) rate + grainsOfCurrent (discharge c)) = omega arith in
+        ≡ (y .held + grainsOfCurrent (chargeCurrent c)) - (leak (y .held) rate + grainsOfCurrent (dischargeCurrent c)) = omega arith in
         sym d ∙ e
 
     pub moved-lmd : (moved c (leaked rate y)) .lmd ≡ y .lmd
@@ -81,7 +81,7 @@ module _ (y : Charge) (b : ChargeTaken y) (rate : ℕ) (low : rate ≤ 1_920) wh
     pub moved-sound : RunSound ((moved c (leaked rate y)) .run)
     unfolding moved leaked
     moved-sound =
-        moved-run-sound (c .charging) (grainsOfCurrent (discharge c)) (drained (y .run) (leak (y .held) rate))
+        moved-run-sound (c .charging) (grainsOfCurrent (dischargeCurrent c)) (drained (y .run) (leak (y .held) rate))
         (drained-none (y .run) (leak (y .held) rate) (b .sound .run .none))
 
 pub rest-taken : (n rate : ℕ) (y : Charge) → ChargeTaken y → rate ≤ 1_920 → ChargeTaken (rested n rate y)

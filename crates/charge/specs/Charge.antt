@@ -9,7 +9,7 @@ use Rattle.grains.specs.Leak.{leak}
 use Rattle.grains.specs.Learning.{learned}
 use Rattle.grains.specs.Run.{drained, noRun, runAccepted, startedRun, unlessPassed}
 use Rattle.grains.specs.declared.run.Run.{Run}
-use Rattle.sample.specs.Current.{charge, discharge}
+use Rattle.sample.specs.Current.{chargeCurrent, dischargeCurrent}
 use Rattle.sample.specs.declared.current.Current.{Current}
 use Rattle.charge.specs.declared.charge.Charge.{Charge}
 
@@ -32,11 +32,11 @@ leaked rate x =
 
 -- "h gains 192,000 × c", where c > 0
 abbrev pub raised : Current → ℕ → ℕ
-raised c held = saturatingSum held (grainsOfCurrent (charge c))
+raised c held = saturatingSum held (grainsOfCurrent (chargeCurrent c))
 
 -- 192,000 × |c| where c < 0, else 0
 abbrev pub drawn : Current → ℕ
-drawn c = grainsOfCurrent (discharge c)
+drawn c = grainsOfCurrent (dischargeCurrent c)
 
 -- "If c > 0: VDQ .. cleared, DCR 0. If c < 0 and VDQ: DCR gains 192,000 × |c|. If DCR passes 65,535 × G, VDQ is cleared, DCR 0."
 unfoldable pub runMoved : Bool → ℕ → Run → Run
@@ -44,7 +44,7 @@ runMoved charging grains run = cond charging noRun (unlessPassed (drained run gr
 
 -- Step 3, the empty stop: "If c < 0 and h ≤ 0", the sum of step 2 being what was held less what is drawn
 abbrev pub emptyStop : Current → ℕ → Bool
-emptyStop c held = ltb 0 (discharge c) && leb (raised c held) (drawn c)
+emptyStop c held = ltb 0 (dischargeCurrent c) && leb (raised c held) (drawn c)
 
 -- "empty stop, h = 0", else the sum
 unfoldable pub heldMoved : Current → ℕ → ℕ

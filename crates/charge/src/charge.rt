@@ -36,8 +36,8 @@ fn run_moved(run: Run, charging: bool, drawn: u64) -> Run
 fn held_moved(held: u64, current: Current) -> u64
     ensures { λ r. ⌜ r ≡ Spec.heldMoved current held ⌝ }
 {
-    let raised = saturating_sum(held, grains_of_current(current.charge()));
-    saturating_difference(raised, grains_of_current(current.discharge()))
+    let raised = saturating_sum(held, grains_of_current(current.charge_current()));
+    saturating_difference(raised, grains_of_current(current.discharge_current()))
 }
 
 impl Charge {
@@ -68,7 +68,7 @@ impl Charge {
         let moved = run_moved(
             run,
             current.charging,
-            grains_of_current(current.discharge()),
+            grains_of_current(current.discharge_current()),
         );
         self.held = held_moved(self.held, current);
         self.run = moved;

@@ -6,7 +6,7 @@ use native.Mathlib.Nat.{div-eq-of-lt, div-zero, mod-eq-of-lt, mod-le, mod-lt, mo
 use native.Mathlib.Omega.{arith}
 use borrow.Author.Tests.{lt-ltb, ltb-true}
 use Rattle.grains.specs.Grains.{grainsOfCounts, grainsOfCurrent, mostDrain, saturatingSum}
-use Rattle.sample.specs.Current.{discharge}
+use Rattle.sample.specs.Current.{dischargeCurrent}
 use Rattle.sample.specs.declared.current.Current.{Current}
 use Rattle.counters.specs.Cycles.{cyclesAccepted, cyclesMoved, cyctAfter, drainWith, mostCycles}
 use Rattle.counters.specs.declared.cycles.Cycles.{Cycles}
@@ -19,7 +19,7 @@ cycles-alike p q = cc
 
 -- ---- each way of the functions
 
-pub drain-with : (c : Current) (drain : ℕ) {i g s : ℕ} → i ≡ discharge c → g ≡ grainsOfCurrent i → s ≡ saturatingSum drain g → s ≡ drainWith c drain
+pub drain-with : (c : Current) (drain : ℕ) {i g s : ℕ} → i ≡ dischargeCurrent c → g ≡ grainsOfCurrent i → s ≡ saturatingSum drain g → s ≡ drainWith c drain
 unfolding drainWith
 drain-with c drain p q e = e ∙ ap (saturatingSum drain) (q ∙ ap grainsOfCurrent p)
 
@@ -50,7 +50,7 @@ module _ (lmd : ℕ) (c : Current) (x : Cycles) (small : x .cyct ≤ mostCycles)
       (ap (λ (v : ℕ). d % v) p ∙ ap (λ (v : ℕ). v % grainsOfCounts lmd) s)
 
 -- an accepted drain gains without the stop of the sum
-pub drain-sum : (c : Current) (drain : ℕ) → drain < mostDrain → discharge c ≤ 65_535 → drainWith c drain ≡ drain + grainsOfCurrent (discharge c)
+pub drain-sum : (c : Current) (drain : ℕ) → drain < mostDrain → dischargeCurrent c ≤ 65_535 → drainWith c drain ≡ drain + grainsOfCurrent (dischargeCurrent c)
 unfolding drainWith
 drain-sum c drain h k = omega arith
 

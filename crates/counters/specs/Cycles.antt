@@ -3,7 +3,7 @@ use mathlib.Core.Bool.{Bool}
 use Prim.Native.Nat.{ℕ, _+_, _/_, _%_, min}
 use lib.Dec.{ltb}
 use Rattle.grains.specs.Grains.{grainsOfCounts, grainsOfCurrent, mostDrain, saturatingSum}
-use Rattle.sample.specs.Current.{discharge}
+use Rattle.sample.specs.Current.{dischargeCurrent}
 use Rattle.sample.specs.declared.current.Current.{Current}
 use Rattle.counters.specs.declared.cycles.Cycles.{Cycles}
 
@@ -20,7 +20,7 @@ cyctAfter cyct cycles = min (cyct + cycles) mostCycles
 
 -- "each window call, no rest, adds its counted discharge to a drain": 192,000 × |c| where c < 0
 unfoldable pub drainWith : Current → ℕ → ℕ
-drainWith c drain = saturatingSum drain (grainsOfCurrent (discharge c))
+drainWith c drain = saturatingSum drain (grainsOfCurrent (dischargeCurrent c))
 
 -- "and one more cycle for every whole LMD × G in it, LMD being that before the window; the surplus is carried over". LMD 0, which 14 refuses, divides
 -- nothing: a quotient by 0 is 0, its remainder the number

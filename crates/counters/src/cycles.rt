@@ -39,7 +39,7 @@ impl Cycles {
     pub fn moved(mut self, lmd: u16, current: Current) -> Cycles
         ensures { λ r. ⌜ r ≡ Spec.cyclesMoved lmd current self ⌝ }
     {
-        let drain = saturating_sum(self.drain, grains_of_current(current.discharge()));
+        let drain = saturating_sum(self.drain, grains_of_current(current.discharge_current()));
         let whole = grains_of_counts(lmd);
         if drain < whole {
             self.drain = drain;

@@ -36,9 +36,9 @@ module _ (old buffer : List ℕ) (small : (k : ℕ) → getD old k 0 < 256) (e :
   unfolding convertNumber
   old-loads = first-none ((loadAnswer old) .number) (lengthRefusal (length buffer)) e
 
-  gauge-is : (loadAnswer old) .gauge ≡ loaded (formOf old) old
+  old-gauge : (loadAnswer old) .gauge ≡ loaded (formOf old) old
   unfolding loadAnswer
-  gauge-is = loads (formOf old) old old-loads .gauge
+  old-gauge = loads (formOf old) old old-loads .gauge
 
   old-taken : Taken (loaded (formOf old) old)
   unfolding loadAnswer
@@ -46,7 +46,7 @@ module _ (old buffer : List ℕ) (small : (k : ℕ) → getD old k 0 < 256) (e :
 
   bytes-are : convertBytes old buffer ≡ savedBytes (loaded (formOf old) old)
   unfolding convertBytes
-  bytes-are = rw e (ap savedBytes gauge-is)
+  bytes-are = rw e (ap savedBytes old-gauge)
 
 pub converted : Converted
 unfolding loadAnswer

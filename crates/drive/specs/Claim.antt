@@ -17,7 +17,7 @@ use Rattle.history.specs.Account.{fixing}
 use Rattle.history.specs.After as Gauges
 use Rattle.history.specs.Call.{Call}
 use Rattle.history.specs.Claim.{drainOf, runOf}
-use Rattle.history.specs.Counts.{cycleCount, restCount}
+use Rattle.history.specs.Counters.{cycleCount, restCount}
 use Rattle.history.specs.History.{afterCalls, openedHistory}
 use Rattle.history.specs.Kept.{History}
 use Rattle.history.specs.Refused.{refusalOf}
@@ -64,10 +64,10 @@ pub record HoldsHistory (saved : List ℕ) (x : History) : Type 0 where
   -- "VDQ is set exactly during a run, and DCR equals R, 0 without a run"
   pub run : runAt newest saved ≡ runOf (x .account .run)
   -- the count of rest windows (A4 of paper 02)
-  pub rests : numberOf Rests newest saved ≡ restCount (x .counts)
+  pub rests : numberOf Rests newest saved ≡ restCount (x .counters)
   -- CYCT and the cycle drain (A5)
-  pub cycles : numberOf Cyct newest saved ≡ cycleCount (x .counts)
-  pub drain : numberOf CycleDrain newest saved ≡ x .counts .drain
+  pub cycles : numberOf Cyct newest saved ≡ cycleCount (x .counters)
+  pub drain : numberOf CycleDrain newest saved ≡ x .counters .drain
   -- "A call is refused exactly where the numbers below say so"; none of them is 14
   pub numbers : (call : Call) → calledNumber call saved ≡ refusalOf call x
   -- an estimate that is not refused is a part of L, and its distance is from floor(H / G) (A4 of paper 02)
@@ -80,7 +80,7 @@ FromOpening =
     (configuration buffer : List ℕ) → ((k : ℕ) → getD configuration k 0 < 256) → openNumber configuration (length buffer) ≡ Refusal.none
     → (calls : List Call) → HoldsHistory (bytesAfter calls (openBytes configuration buffer)) (afterCalls calls (openedHistory configuration))
 
--- the history begun at what bytes of a form hold: their h is the last fixing point, and nothing is summed yet; their counts go on, 0 in a form that
+-- the history begun at what bytes of a form hold: their h is the last fixing point, and nothing is summed yet; their counters go on, 0 in a form that
 -- has none
 abbrev pub begunIn : Form → List ℕ → History
 begunIn form bytes =
@@ -88,7 +88,7 @@ begunIn form bytes =
       settings = openedSettings (bytesOf Configuration form bytes);
       account = fixing (numberOf Held form bytes) (numberOf Lmd form bytes) (drainOf (runAt form bytes));
       host = record { mode = numberOf Mode form bytes; ar = numberOf Ar form bytes };
-      counts = record { rests = numberOf Rests form bytes; cycles = numberOf Cyct form bytes; drain = numberOf CycleDrain form bytes };
+      counters = record { rests = numberOf Rests form bytes; cycles = numberOf Cyct form bytes; drain = numberOf CycleDrain form bytes };
     }
 
 -- demand 3 from any bytes of the newest form that are accepted, for the history begun at what they hold: a handset that was switched off or

@@ -32,8 +32,8 @@ gaugeOf41 bytes si counters =
     }
 
 -- the count of rest windows, CYCT and its drain
-abbrev pub counts : ℕ → ℕ → ℕ → Counters
-counts rests cyct drain = record { rests = rests; cycles = record { cyct = cyct; drain = drain } }
+abbrev pub countersOf : ℕ → ℕ → ℕ → Counters
+countersOf rests cyct drain = record { rests = rests; cycles = record { cyct = cyct; drain = drain } }
 
 -- bytes whose first byte is a form's number and that are accepted hold a gauge
 abbrev pub ReadsAs : ℕ → (List ℕ → Gauge) → Type 0
@@ -41,19 +41,19 @@ ReadsAs form gauge = (bytes : List ℕ) → numberAt 1 0 bytes ≡ form → (loa
 
 -- form 1: SI "multiplied by 16" (A1), the count "as 0" (A4), CYCT and the drain "as 0 in both" (A5)
 abbrev pub Form1Reads : Type 0
-Form1Reads = ReadsAs 1 (λ bytes. gaugeOf41 bytes (16 * numberAt 2 29 bytes) (counts 0 0 0))
+Form1Reads = ReadsAs 1 (λ bytes. gaugeOf41 bytes (16 * numberAt 2 29 bytes) (countersOf 0 0 0))
 
 -- form 2: SI "with the sixteenths .. in the same two bytes" (A1), and the others as 0
 abbrev pub Form2Reads : Type 0
-Form2Reads = ReadsAs 2 (λ bytes. gaugeOf41 bytes (numberAt 2 29 bytes) (counts 0 0 0))
+Form2Reads = ReadsAs 2 (λ bytes. gaugeOf41 bytes (numberAt 2 29 bytes) (countersOf 0 0 0))
 
 -- form 3: it "appends it in two bytes", the count of rest windows (A4)
 abbrev pub Form3Reads : Type 0
-Form3Reads = ReadsAs 3 (λ bytes. gaugeOf41 bytes (numberAt 2 29 bytes) (counts (numberAt 2 41 bytes) 0 0))
+Form3Reads = ReadsAs 3 (λ bytes. gaugeOf41 bytes (numberAt 2 29 bytes) (countersOf (numberAt 2 41 bytes) 0 0))
 
 -- form 4: it "appends CYCT and the 8-byte drain" (A5); "a stored 65,535 is carried over as that number" (A6)
 abbrev pub Form4Reads : Type 0
-Form4Reads = ReadsAs 4 (λ bytes. gaugeOf41 bytes (numberAt 2 29 bytes) (counts (numberAt 2 41 bytes) (numberAt 2 43 bytes) (numberAt 8 45 bytes)))
+Form4Reads = ReadsAs 4 (λ bytes. gaugeOf41 bytes (numberAt 2 29 bytes) (countersOf (numberAt 2 41 bytes) (numberAt 2 43 bytes) (numberAt 8 45 bytes)))
 
 -- and SI shows what form 1 held, until a light load moves it
 abbrev pub Form1Shows : Type 0

@@ -14,6 +14,6 @@ pub gauge-alike : {c d : Settings} {x y : Charge} {s u : Sample} {i j : ℕ} {f 
 gauge-alike o p q r t w z = cc
 
 -- with the settings that it had
-pub gauge-is : {c : Settings} {x y : Charge} {s u : Sample} {i j : ℕ} {f g : Flags} {h k : Host} {m n : Counters}
+pub same-settings-alike : {c : Settings} {x y : Charge} {s u : Sample} {i j : ℕ} {f g : Flags} {h k : Host} {m n : Counters}
     → x ≡ y → s ≡ u → i ≡ j → f ≡ g → h ≡ k → m ≡ n → gaugeOf c x s i f h m ≡ gaugeOf c y u j g k n
-gauge-is p q r t w z = gauge-alike refl p q r t w z
+same-settings-alike p q r t w z = gauge-alike refl p q r t w z

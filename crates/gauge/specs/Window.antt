@@ -6,7 +6,7 @@ use Rattle.flags.specs.Flags.{clearedIf}
 use Rattle.host.specs.Host.{fullIf}
 use Rattle.reached.specs.ChargeAfter.{chargeAfter, reachedIn}
 use Rattle.reached.specs.Reached.{flagsEnded}
-use Rattle.sample.specs.Current.{discharge}
+use Rattle.sample.specs.Current.{dischargeCurrent}
 use Rattle.standby.specs.Standby.{averaged}
 use Rattle.sample.specs.declared.current.Current.{Current}
 use Rattle.gauge.specs.declared.state.Gauge.{Gauge}
@@ -20,7 +20,7 @@ window c v t g =
       -- Step 1: "VOLT = v, TEMP = t, IAV (the sheet's average current) = |c|, CHGS set if c > 0, else clear"
       sample = record { current = c; voltage = v; temperature = t };
       -- Step 5
-      standby = averaged ((termsOf (g .settings)) .s0) (g .standby) (discharge c);
+      standby = averaged ((termsOf (g .settings)) .s0) (g .standby) (dischargeCurrent c);
       -- Steps 2 and 4
       flags = flagsEnded ((reachedIn (termsOf (g .settings)) c v t (g .charge)) .ending) (clearedIf (c .charging) (g .flags));
       -- Step 3

@@ -23,7 +23,7 @@ impl Gauge {
         let ending = ending_of(
             settings,
             summed.run.vdq,
-            current.discharge(),
+            current.discharge_current(),
             voltage,
             temperature,
         );
@@ -35,7 +35,7 @@ impl Gauge {
             voltage,
             temperature,
         };
-        let standby = averaged(settings, self.standby, current.discharge());
+        let standby = averaged(settings, self.standby, current.discharge_current());
         let counters = self.counters.moved(self.charge.lmd, current);
         Gauge {
             settings,

@@ -11,27 +11,27 @@ use borrow.Author.Tests.{leb-true, leb-false}
 use Rattle.grains.specs.Grains.{grainsPerCount, nac}
 use Rattle.numbers.proofs.EveryLaws.{first-passes, rest-passes}
 use Rattle.numbers.proofs.ProductLaws.{product-within}
-use Rattle.grains.specs.Leak.{bandTable, reached, band, weight, leakRate, leak}
+use Rattle.grains.specs.Leak.{bandTable, risesUpTo, band, weight, leakRate, leak}
 
 -- n temperatures from first on, 40 quarter kelvins apart
 abbrev everyForty : ℕ → ℕ → List ℕ
 everyForty first zero = []
 everyForty first (suc n) = first ∷ everyForty (first + 40) n
 
-reached-every-forty : (t first n : ℕ) → reached t (everyForty first n) ≡ min n ((t + 40 - first) / 40)
-unfolding reached
-reached-every-forty t first zero = omega arith
-reached-every-forty t first (suc n) = go (leb first t) refl (reached-every-forty t (first + 40) n)
+rises-every-forty : (t first n : ℕ) → risesUpTo t (everyForty first n) ≡ min n ((t + 40 - first) / 40)
+unfolding risesUpTo
+rises-every-forty t first zero = omega arith
+rises-every-forty t first (suc n) = go (leb first t) refl (rises-every-forty t (first + 40) n)
   where
-    go : (test : Bool) → leb first t ≡ test → reached t (everyForty (first + 40) n) ≡ min n ((t + 40 - (first + 40)) / 40)
-        → cond test (suc (reached t (everyForty (first + 40) n))) 0 ≡ min (suc n) ((t + 40 - first) / 40)
+    go : (test : Bool) → leb first t ≡ test → risesUpTo t (everyForty (first + 40) n) ≡ min n ((t + 40 - (first + 40)) / 40)
+        → cond test (suc (risesUpTo t (everyForty (first + 40) n))) 0 ≡ min (suc n) ((t + 40 - first) / 40)
     go true e ih = let h = leb-true first t e in omega arith
     go false e ih = let h = leb-false first t e in omega arith
 
 -- the band is the number of whole 40 quarter kelvins above 1,052, at most 7
 pub band-is : (t : ℕ) → band t ≡ min 7 ((t + 40 - 1092) / 40)
 unfolding band
-band-is t = reached-every-forty t 1092 7
+band-is t = rises-every-forty t 1092 7
 
 pub band-below : (t : ℕ) → band t < 8
 band-below t = let e = band-is t in omega arith

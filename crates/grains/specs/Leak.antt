@@ -14,14 +14,14 @@ bandTable = 1 ∷ 2 ∷ 4 ∷ 8 ∷ 16 ∷ 32 ∷ 64 ∷ 128 ∷ []
 abbrev pub bandRises : List ℕ
 bandRises = 1092 ∷ 1132 ∷ 1172 ∷ 1212 ∷ 1252 ∷ 1292 ∷ 1332 ∷ []
 
--- how many of the temperatures in the list t has reached
-unfoldable pub reached : ℕ → List ℕ → ℕ
-reached t [] = 0
-reached t (rise ∷ rises) = cond (leb rise t) (suc (reached t rises)) 0
+-- how many of the temperatures in the list, from the first on, are not above t
+unfoldable pub risesUpTo : ℕ → List ℕ → ℕ
+risesUpTo t [] = 0
+risesUpTo t (rise ∷ rises) = cond (leb rise t) (suc (risesUpTo t rises)) 0
 
 -- the band of a temperature, 0 to 7
 unfoldable pub band : ℕ → ℕ
-band t = reached t bandRises
+band t = risesUpTo t bandRises
 
 -- "W comes, by the t handed in, from the band table"
 unfoldable pub weight : ℕ → ℕ

@@ -92,10 +92,10 @@ address-within : (g : Gauge) (address value : ℕ) → (writeAnswer g address va
 unfolding writeAnswer writeRefusal
 address-within g address value z = address-chosen (accepted g) (ltb 3 address) address _ refl z
 
-gauge-is : (g : Gauge) (address value : ℕ) → (writeAnswer g address value) .number ≡ 0
+written-gauge : (g : Gauge) (address value : ℕ) → (writeAnswer g address value) .number ≡ 0
     → (writeAnswer g address value) .gauge ≡ written address value g
 unfolding writeAnswer
-gauge-is g address value z = simp z
+written-gauge g address value z = simp z
 
 -- the bytes of the gauge that the write of a byte leads to
 pub byte-written : (bytes : List ℕ) → ((k : ℕ) → getD bytes k 0 < 256) → formFits newest bytes ≡ true
@@ -108,7 +108,7 @@ byte-written bytes small f address value ne h a z p =
     ap (λ (k : ℕ). set bytes k value) p
     ∙ ap (λ (l : List ℕ). set l (hostPlace address) value) (sym (saved-loaded bytes small f))
     ∙ stored-saved g address value above (address-within g address value n) h
-    ∙ ap savedBytes (sym (written-is g address value ne) ∙ sym (gauge-is g address value n))
+    ∙ ap savedBytes (sym (written-is g address value ne) ∙ sym (written-gauge g address value n))
     ∙ ap (λ (x : Answer). savedBytes (x .gauge)) (sym a)
   where
     above-zero : (k : ℕ) → (k ≡ 0 → ⊥) → 0 < k

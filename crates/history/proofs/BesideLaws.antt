@@ -30,14 +30,14 @@ use Rattle.sample.specs.Limits.{leastTemperature, leastVoltage, mostTemperature
 use Rattle.sample.specs.Range.{between, current, currentInRange, currentOf, temperature, temperatureInRange, valueBetween, voltage}
 use Rattle.sample.specs.declared.current.Current.{Current}
 use Rattle.history.specs.Account.{afterRest, afterWindow}
-use Rattle.history.specs.Counts.{countsAfterRest, countsAfterWindow}
+use Rattle.history.specs.Counters.{countersAfterRest, countersAfterWindow}
 use Rattle.history.specs.History.{afterCommand, afterKey, afterWrite, hostAfter, startedHistory, withoutCommand}
-use Rattle.history.specs.Kept.{History, withAccount, withCounts, withHost}
+use Rattle.history.specs.Kept.{History, withAccount, withCounters, withHost}
 use Rattle.history.specs.Tests.{countedCurrent}
 use Rattle.history.proofs.AnswerLaws.{InRange}
 use Rattle.reached.specs.ChargeAfter.{chargeAfter}
 use Rattle.history.proofs.CommandTracks.{HostTracks, full-host, host-decides, obeyed-host, command-tracks, stored-host}
-use Rattle.history.proofs.CountTracks.{CountTracks, command-counts, rest-counts, window-counts}
+use Rattle.history.proofs.CountersTrack.{CountersTrack, command-counts, rest-counts, window-counts}
 use Rattle.history.proofs.RestTracks.{rest-tracks}
 use Rattle.sample.proofs.SampleKept.{counted-within}
 use Rattle.charge.proofs.ChargeKept.{rate-low}
@@ -52,7 +52,7 @@ pub record Beside (g : Gauge) (x : History) : Type 0 where
   pub settings : x .settings ≡ g .settings
   pub tracks : Tracks (g .charge) (x .account)
   pub host : HostTracks (g .host) (x .host)
-  pub counts : CountTracks (g .counters) (x .counts)
+  pub counters : CountersTrack (g .counters) (x .counters)
 
 -- ---- the sample with its signs
 
@@ -94,22 +94,22 @@ module _ (g : Gauge) (x : History) (s : Taken g) (f : Beside g x) where
       (sym e) k
 
   window-count : (a : ℤ) → currentInRange a ≡ true
-      → CountTracks (countersMoved (g .charge .lmd) (counted (dmf (g .settings)) (current a)) (g .counters))
-      (countsAfterWindow (x .account .learned) (countedCurrent (termsOf (x .settings)) a) (x .counts))
+      → CountersTrack (countersMoved (g .charge .lmd) (counted (dmf (g .settings)) (current a)) (g .counters))
+      (countersAfterWindow (x .account .learned) (countedCurrent (termsOf (x .settings)) a) (x .counters))
   window-count a r =
       let c = g .settings in
       let l = g .charge .lmd in
       let z = countedCurrent (termsOf c) a in
       let i = counted-is (termsOf c) a r in
       let small = subst (λ (j : Current). j .magnitude ≤ 65_535) i (counted-within (dmf c) a r) in
-      let k = window-counts (g .counters) (x .counts) (f .counts) l z small (accepted-drain (g .counters) (sound g (s .accepted) .counters)) in
-      subst₂ CountTracks (ap (λ (j : Current). countersMoved l j (g .counters)) (sym i))
-      (ap (λ (m : ℕ). countsAfterWindow m z (x .counts)) (f .tracks .lmd)
-      ∙ ap (λ (d : Settings). countsAfterWindow (x .account .learned) (countedCurrent (termsOf d) a) (x .counts)) (sym (f .settings))) k
+      let k = window-counts (g .counters) (x .counters) (f .counters) l z small (accepted-drain (g .counters) (sound g (s .accepted) .counters)) in
+      subst₂ CountersTrack (ap (λ (j : Current). countersMoved l j (g .counters)) (sym i))
+      (ap (λ (m : ℕ). countersAfterWindow m z (x .counters)) (f .tracks .lmd)
+      ∙ ap (λ (d : Settings). countersAfterWindow (x .account .learned) (countedCurrent (termsOf d) a) (x .counters)) (sym (f .settings))) k
 
   pub window-beside : (a v t : ℤ) → InRange a v t
       → Beside (window (counted (dmf (g .settings)) (current a)) (voltage v) (temperature t) g)
-      (withCounts (countsAfterWindow (x .account .learned) (countedCurrent (termsOf (x .settings)) a) (x .counts))
+      (withCounters (countersAfterWindow (x .account .learned) (countedCurrent (termsOf (x .settings)) a) (x .counters))
       (withAccount (afterWindow (termsOf (x .settings)) (countedCurrent (termsOf (x .settings)) a) v t (x .account)) x))
   unfolding window
   window-beside a v t r =
@@ -117,12 +117,12 @@ module _ (g : Gauge) (x : History) (s : Taken g) (f : Beside g x) where
         settings = f .settings;
         tracks = window-charge a v t r;
         host = full-host _ (g .host) (x .host) (f .host);
-        counts = window-count a (r .current);
+        counters = window-count a (r .current);
       }
 
   pub rest-beside : (n : ℕ) (t : ℤ) → temperatureInRange t ≡ true
       → Beside (rest n (temperature t) g)
-      (withCounts (countsAfterRest n (x .counts)) (withAccount (afterRest (termsOf (x .settings)) n t (x .account)) x))
+      (withCounters (countersAfterRest n (x .counters)) (withAccount (afterRest (termsOf (x .settings)) n t (x .account)) x))
   unfolding rest
   rest-beside n t r =
       let c = g .settings in
@@ -134,7 +134,7 @@ module _ (g : Gauge) (x : History) (s : Taken g) (f : Beside g x) where
         settings = f .settings;
         tracks = subst (Tracks (rested n (leakRate (sd c) (temperature t)) (g .charge))) (sym e) k;
         host = f .host;
-        counts = rest-counts (g .counters) (x .counts) (f .counts) n;
+        counters = rest-counts (g .counters) (x .counters) (f .counters) n;
       }
 
   stored-beside : (address value : ℕ) → Beside (storedAt address value g) (withHost (hostAfter address value (x .host)) x)
@@ -144,7 +144,7 @@ module _ (g : Gauge) (x : History) (s : Taken g) (f : Beside g x) where
         settings = f .settings;
         tracks = f .tracks;
         host = stored-host address value (g .host) (x .host) (s .fits .host .ar) (f .host);
-        counts = f .counts;
+        counters = f .counters;
       }
 
   command-settings : (command : Command) → (afterCommand command x) .settings ≡ x .settings
@@ -160,7 +160,7 @@ module _ (g : Gauge) (x : History) (s : Taken g) (f : Beside g x) where
         settings = command-settings command ∙ f .settings;
         tracks = command-tracks command (g .settings) (g .host .ar) (g .charge) x (f .tracks) (f .settings) (f .host .ar);
         host = obeyed-host command (g .settings) (g .host) x (f .host .ar);
-        counts = command-counts command (g .counters) x (f .counts);
+        counters = command-counts command (g .counters) x (f .counters);
       }
 
   decided-beside : (d : Decision) → Beside (decided d g) (afterKey d x)

@@ -1,12 +1,12 @@
 pub mod AnswerLaws
 pub mod BesideLaws
 pub mod CommandTracks
-pub mod CountTracks
+pub mod CountersTrack
 pub mod DifferenceLaws
 pub mod ListLaws
 pub mod NumberLaws
-pub mod RestsLaws
 pub mod RestTracks
+pub mod RestsLaws
 pub mod StayLaws
 pub mod SumTracks
 pub mod Tracking

@@ -37,7 +37,7 @@ use Rattle.history.specs.Kept.{History}
 use Rattle.history.specs.Refused.{refusalOf}
 use Rattle.history.proofs.AnswerLaws.{rest-in-range, window-in-range}
 use Rattle.history.proofs.BesideLaws.{Beside, rest-beside, window-beside, written-beside}
-use Rattle.history.proofs.CountTracks.{begun-counts}
+use Rattle.history.proofs.CountersTrack.{begun-counts}
 use Rattle.charge.proofs.ChargeKept as Charge
 use Rattle.host.proofs.HostKept.{opened-fits}
 use Rattle.history.proofs.NumberLaws.{number-other, numbers-alike}
@@ -91,9 +91,9 @@ agrees g x s f =
       held = sym (f .tracks .held);
       lmd = f .tracks .lmd;
       run = f .tracks .run;
-      rests = f .counts .rests;
-      cycles = f .counts .cycles;
-      drain = f .counts .drain;
+      rests = f .counters .rests;
+      cycles = f .counters .cycles;
+      drain = f .counters .drain;
       refused = λ call. numbers-alike call g x (s .accepted) f;
       never = λ call e.
           let n = numbers-alike call g x (s .accepted) f in
@@ -131,7 +131,7 @@ begun-beside g s =
       settings = refl;
       tracks = record { held = fixed-is (g .charge .held); lmd = refl; run = run-begun (g .charge .run) (sound g (s .accepted) .charge .run) };
       host = record { mode = refl; ar = refl };
-      counts = begun-counts (g .counters) (s .fits .counters);
+      counters = begun-counts (g .counters) (s .fits .counters);
     }
 
 pub from-any-gauge : FromAnyGauge

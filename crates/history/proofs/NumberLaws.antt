@@ -26,7 +26,7 @@ use Rattle.history.specs.Kept.{History}
 use Rattle.history.specs.Refused.{refusalOf}
 use Rattle.history.proofs.BesideLaws.{Beside}
 use Rattle.history.proofs.CommandTracks.{host-decides}
-use Rattle.history.proofs.CountTracks.{rested-alike}
+use Rattle.history.proofs.CountersTrack.{rested-alike}
 use Rattle.command.proofs.DecisionLaws.{key-most}
 
 -- ---- the history's number
@@ -53,7 +53,7 @@ numbers-alike (Call.preview key replyLength) g x e f =
 numbers-alike (Call.estimate v) g x e f =
     rw (e, in-table-is v)
     (ap (λ (n : ℕ). orElse n (cond (leZ (pos 3_000) v && leZ v (pos 4_200)) Refusal.none Refusal.outsideTable))
-    (rested-alike (g .counters) (x .counts) (f .counts)))
+    (rested-alike (g .counters) (x .counters) (f .counters)))
 
 -- ---- is never 14
 
@@ -95,7 +95,7 @@ number-other (Call.preview key replyLength) x =
     (low-other _ (key-most (key .number) (x .host .mode) (x .host .ar)))
     (either-other (eqb replyLength 128) Refusal.none Refusal.bufferLength (λ e. omega arith) (λ e. omega arith))
 number-other (Call.estimate v) x =
-    or-else-other (cond (ltb (x .counts .rests) 422) Refusal.notRested Refusal.none)
+    or-else-other (cond (ltb (x .counters .rests) 422) Refusal.notRested Refusal.none)
     (cond (leZ (pos 3_000) v && leZ v (pos 4_200)) Refusal.none Refusal.outsideTable)
-    (either-other (ltb (x .counts .rests) 422) Refusal.notRested Refusal.none (λ e. omega arith) (λ e. omega arith))
+    (either-other (ltb (x .counters .rests) 422) Refusal.notRested Refusal.none (λ e. omega arith) (λ e. omega arith))
     (either-other (leZ (pos 3_000) v && leZ v (pos 4_200)) Refusal.none Refusal.outsideTable (λ e. omega arith) (λ e. omega arith))

@@ -44,10 +44,10 @@ number-is : (n : ℕ) → restInRange n ≡ true → (t : ℤ) (g : Gauge) → n
 unfolding numberOf restAnswer number
 number-is n r t g = rw r
 
-gauge-is : (n : ℕ) → restInRange n ≡ true → (t : ℤ) (g : Gauge)
+rest-gauge : (n : ℕ) → restInRange n ≡ true → (t : ℤ) (g : Gauge)
     → gaugeAfter (Call.rest n t) g ≡ cond (eqb (number t g) Refusal.none) (rest n (temperature t) g) g
 unfolding gaugeAfter restAnswer number
-gauge-is n r t g = rw r
+rest-gauge n r t g = rw r
 
 some-windows : (n : ℕ) → restInRange n ≡ true → 0 < n
 some-windows n r = ltb-true 0 n (and-left (ltb 0 n) (leb n longestRest) r)
@@ -71,7 +71,7 @@ all-refused n r t g refused =
     nothing-moves n t g refl (λ calls. ap (after calls) (stays 1 refl)) (stays n r) (number-is 1 refl t g ∙ sym (number-is n r t g))
   where
     stays : (k : ℕ) → restInRange k ≡ true → gaugeAfter (Call.rest k t) g ≡ g
-    stays k i = gauge-is k i t g ∙ simp refused
+    stays k i = rest-gauge k i t g ∙ simp refused
 
 -- ---- where it is accepted
 
@@ -80,7 +80,7 @@ rest-joined : (n t : ℕ) (g : Gauge) → rest (suc n) t (rest 1 t g) ≡ rest (
 unfolding rest rested sampleRested
 rest-joined n t g =
     let all : 1 + suc n ≡ suc (suc n) = omega arith in
-    Parts.gauge-is refl refl refl refl refl (rested-twice 1 (suc n) (g .counters) ∙ ap (λ (m : ℕ). countersRested m (g .counters)) all)
+    Parts.same-settings-alike refl refl refl refl refl (rested-twice 1 (suc n) (g .counters) ∙ ap (λ (m : ℕ). countersRested m (g .counters)) all)
 
 module _ (t : ℤ) (inRange : temperatureInRange t ≡ true) where
   taken-number : (g : Gauge) → Taken g → number t g ≡ Refusal.none
@@ -88,7 +88,7 @@ module _ (t : ℤ) (inRange : temperatureInRange t ≡ true) where
   taken-number g s = simp (s .accepted, inRange)
 
   taken-gauge : (n : ℕ) → restInRange n ≡ true → (g : Gauge) → Taken g → gaugeAfter (Call.rest n t) g ≡ rest n (temperature t) g
-  taken-gauge n r g s = gauge-is n r t g ∙ simp (taken-number g s)
+  taken-gauge n r g s = rest-gauge n r t g ∙ simp (taken-number g s)
 
   all-rest : (n : ℕ) (g : Gauge) → Taken g → after (replicate (suc n) (Call.rest 1 t)) g ≡ rest (suc n) (temperature t) g
   unfolding after

@@ -25,7 +25,7 @@ use Rattle.gauge.proofs.ObeyedKept.{decided-taken}
 use Rattle.gauge.proofs.TakenLaws.{gauge-taken, taken-charge}
 use Rattle.grains.specs.Leak.{leakRate}
 use Rattle.refusals.proofs.OrElseLaws.{not-rejected}
-use Rattle.sample.specs.Current.{counted, discharge}
+use Rattle.sample.specs.Current.{counted, dischargeCurrent}
 use Rattle.sample.specs.Limits.{restInRange}
 use Rattle.sample.specs.Range.{current, temperature, temperatureInRange, voltage}
 use Rattle.history.specs.After.{gaugeAfter}
@@ -56,7 +56,7 @@ module _ (g : Gauge) (k : Taken g) where
       (record {
         settings = s .settings;
         charge = y .sound;
-        standby = averaged-kept (s0 c) (g .standby) (discharge i) (s .standby);
+        standby = averaged-kept (s0 c) (g .standby) (dischargeCurrent i) (s .standby);
         sample = window-sample (dmf c) a v t (r .current) (r .voltage) (r .temperature);
         counters = moved-accepted (g .charge .lmd) i (g .counters) (s .charge .learned) (let l = f .charge .lmd in omega arith);
       })

@@ -17,7 +17,7 @@ use Rattle.grains.specs.Leak.{leak, leakRate}
 use Rattle.grains.specs.Run.{drained, unlessPassed}
 use Rattle.grains.specs.declared.run.Run.{Run}
 use Rattle.numbers.specs.Signed.{atLeastZero, magnitude}
-use Rattle.sample.specs.Current.{charge, discharge}
+use Rattle.sample.specs.Current.{chargeCurrent, dischargeCurrent}
 use Rattle.sample.specs.Range.{currentOf}
 use Rattle.history.specs.Account.{Account, afterRestWindow, afterSums, leakNow}
 use Rattle.history.specs.Claim.{runOf}
@@ -31,8 +31,8 @@ use Rattle.history.proofs.Tracking.{leaked-difference, moved-difference
 -- ---- the counted current with its sign
 
 -- c is what comes in less what goes out
-parts-difference : (z : ℤ) → Difference z (charge (currentOf z)) (discharge (currentOf z))
-unfolding charge discharge
+parts-difference : (z : ℤ) → Difference z (chargeCurrent (currentOf z)) (dischargeCurrent (currentOf z))
+unfolding chargeCurrent dischargeCurrent
 parts-difference (pos n) = go (ltb 0 n) refl
   where
     go : (t : Bool) → ltb 0 n ≡ t → Difference (pos n) (cond t n 0) (cond t 0 n)
@@ -93,15 +93,15 @@ module _ (terms : Terms) (t : ℕ) (low : leakRate (terms .sd) t ≤ 1_920) (y :
   -- H before any fixing point
   pub sums-difference : (z : ℤ)
       → Difference (chargeOf ((afterSums terms z (pos t) x) .sums))
-      (y .held + grainsOfCurrent (charge (currentOf z)))
-      (leak (y .held) (leakRate (terms .sd) t) + grainsOfCurrent (discharge (currentOf z)))
+      (y .held + grainsOfCurrent (chargeCurrent (currentOf z)))
+      (leak (y .held) (leakRate (terms .sd) t) + grainsOfCurrent (dischargeCurrent (currentOf z)))
   unfolding afterSums
   sums-difference z =
       subst
       (λ (n : ℕ). Difference (chargeOf (withCurrent z (withLeak (leakNow terms (pos t) (x .sums)) (x .sums))))
-      (y .held + grainsOfCurrent (charge (currentOf z))) (n + grainsOfCurrent (discharge (currentOf z))))
+      (y .held + grainsOfCurrent (chargeCurrent (currentOf z))) (n + grainsOfCurrent (dischargeCurrent (currentOf z))))
       leak-is
-      (moved-difference (x .sums) (y .held) (leakNow terms (pos t) (x .sums)) z (charge (currentOf z)) (discharge (currentOf z)) (k .held)
+      (moved-difference (x .sums) (y .held) (leakNow terms (pos t) (x .sums)) z (chargeCurrent (currentOf z)) (dischargeCurrent (currentOf z)) (k .held)
       (parts-difference z))
 
   -- charging ends a run; else its drain gains the leak and what is drawn, which is |c|
@@ -122,7 +122,7 @@ module _ (terms : Terms) (t : ℕ) (low : leakRate (terms .sd) t ≤ 1_920) (y :
 
   pub sums-run : (z : ℤ) → magnitude z ≤ 65_535
       → (moved (currentOf z) (leaked (leakRate (terms .sd) t) y)) .run ≡ runOf ((afterSums terms z (pos t) x) .run)
-  unfolding moved leaked afterSums discharge
+  unfolding moved leaked afterSums dischargeCurrent
   sums-run (pos n) small = run-moves (ltb 0 n) n small
   sums-run (negsuc n) small = run-moves false (suc n) small
 

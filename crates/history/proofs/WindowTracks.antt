@@ -21,7 +21,7 @@ use Rattle.reached.specs.ChargeAfter.{chargeAfter, reachedIn, summed}
 use Rattle.reached.specs.Ending.{endingOf}
 use Rattle.reached.specs.Full.{isFull}
 use Rattle.reached.specs.Reached.{chargeEnded, chargeReached, filledIf, reachedBy}
-use Rattle.sample.specs.Current.{charge, discharge}
+use Rattle.sample.specs.Current.{chargeCurrent, dischargeCurrent}
 use Rattle.sample.specs.Range.{currentOf}
 use Rattle.history.specs.Account.{Account, afterEmptyStop, afterFull, afterSums, afterVoltage, afterWindow, fixing}
 use Rattle.history.specs.Sums.{chargeOf, grainsACount}
@@ -34,8 +34,8 @@ use Rattle.history.proofs.VoltageTracks.{voltage-tracks}
 
 -- ---- a window with c not below 0 reaches no voltage, in the gauge and in the history
 
-pub no-outflow : (n : ℕ) → discharge (currentOf (pos n)) ≡ 0
-unfolding discharge
+pub no-outflow : (n : ℕ) → dischargeCurrent (currentOf (pos n)) ≡ 0
+unfolding dischargeCurrent
 no-outflow n = go (ltb 0 n) refl
   where
     go : (t : Bool) → ltb 0 n ≡ t → cond t 0 n ≡ 0
@@ -43,7 +43,7 @@ no-outflow n = go (ltb 0 n) refl
     go false e = let h = ltb-false 0 n e in omega arith
 
 no-ending : (terms : Terms) (n v t : ℕ) (vdq : Bool) (y : Charge)
-    → chargeEnded (endingOf terms vdq (discharge (currentOf (pos n))) v t) y ≡ y
+    → chargeEnded (endingOf terms vdq (dischargeCurrent (currentOf (pos n))) v t) y ≡ y
 unfolding chargeEnded endingOf
 no-ending terms n v t vdq y = ap (λ (d : ℕ). chargeEnded (endingOf terms vdq d v t) y) (no-outflow n)
 
@@ -87,11 +87,11 @@ chargeMoved terms t z y = moved (currentOf z) (leaked (leakRate (terms .sd) t) y
 
 -- what was held and came in
 abbrev incoming : ℤ → Charge → ℕ
-incoming z y = y .held + grainsOfCurrent (charge (currentOf z))
+incoming z y = y .held + grainsOfCurrent (chargeCurrent (currentOf z))
 
 -- what leaked and went out
 abbrev outgoing : Terms → ℕ → ℤ → Charge → ℕ
-outgoing terms t z y = leak (y .held) (leakRate (terms .sd) t) + grainsOfCurrent (discharge (currentOf z))
+outgoing terms t z y = leak (y .held) (leakRate (terms .sd) t) + grainsOfCurrent (dischargeCurrent (currentOf z))
 
 module _ (terms : Terms) (t : ℕ) (low : leakRate (terms .sd) t ≤ 1_920) (y : Charge) (x : Account) (k : Tracks y x) (b : ChargeTaken y) where
   held-is : (z : ℤ) → magnitude z ≤ 65_535 → (chargeMoved terms t z y) .held ≡ incoming z y - outgoing terms t z y
@@ -148,7 +148,7 @@ module _ (terms : Terms) (t : ℕ) (low : leakRate (terms .sd) t ≤ 1_920) (y :
 
   below-tracks : (n v : ℕ) → suc n ≤ 65_535
       → Tracks (chargeAfter terms (currentOf (negsuc n)) v t y) (afterWindow terms (negsuc n) (pos v) (pos t) x)
-  unfolding chargeAfter chargeReached reachedIn reachedBy summed isFull filledIf discharge afterWindow afterFull reachesFull
+  unfolding chargeAfter chargeReached reachedIn reachedBy summed isFull filledIf dischargeCurrent afterWindow afterFull reachesFull
   below-tracks n v small =
       voltage-tracks terms n v t (chargeMoved terms t (negsuc n) y) (afterEmptyStop (negsuc n) (afterSums terms (negsuc n) (pos t) x))
       (stopped-track n small)

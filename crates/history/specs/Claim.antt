@@ -16,7 +16,7 @@ use Rattle.refusals.specs.Refusal as Refusal
 use Rattle.history.specs.Account.{fixing}
 use Rattle.history.specs.After.{after, gaugeAfter, numberOf}
 use Rattle.history.specs.Call.{Call}
-use Rattle.history.specs.Counts.{cycleCount, restCount}
+use Rattle.history.specs.Counters.{cycleCount, restCount}
 use Rattle.history.specs.History.{afterCalls, openedHistory}
 use Rattle.history.specs.Kept.{History}
 use Rattle.history.specs.Refused.{refusalOf}
@@ -35,10 +35,10 @@ pub record Agrees (g : Gauge) (x : History) : Type 0 where
   pub lmd : g .charge .lmd ≡ x .account .learned
   pub run : g .charge .run ≡ runOf (x .account .run)
   -- the count of rest windows (A4 of paper 02)
-  pub rests : g .counters .rests ≡ restCount (x .counts)
+  pub rests : g .counters .rests ≡ restCount (x .counters)
   -- CYCT and the cycle drain (A5)
-  pub cycles : g .counters .cycles .cyct ≡ cycleCount (x .counts)
-  pub drain : g .counters .cycles .drain ≡ x .counts .drain
+  pub cycles : g .counters .cycles .cyct ≡ cycleCount (x .counters)
+  pub drain : g .counters .cycles .drain ≡ x .counters .drain
   -- "A call is refused exactly where the numbers below say so for its arguments and" what the history keeps
   pub refused : (call : Call) → numberOf call g ≡ refusalOf call x
   -- "14 never arises in such a list"
@@ -65,7 +65,7 @@ begun g =
       settings = g .settings;
       account = fixing (g .charge .held) (g .charge .lmd) (drainOf (g .charge .run));
       host = g .host;
-      counts = record { rests = g .counters .rests; cycles = g .counters .cycles .cyct; drain = g .counters .cycles .drain };
+      counters = record { rests = g .counters .rests; cycles = g .counters .cycles .cyct; drain = g .counters .cycles .drain };
     }
 
 -- "Any gauge value handed to a call": for each that is accepted and every list of calls

@@ -20,8 +20,8 @@ use Rattle.host.specs.declared.host.Host.{Host}
 use Rattle.refusals.specs.Refusal as Refusal
 use Rattle.history.specs.Account.{afterRest, afterSetting, afterWindow, fixing, withRun}
 use Rattle.history.specs.Call.{Call, window, rest, write, read, preview, estimate}
-use Rattle.history.specs.Counts.{countsAfterPrst, countsAfterRest, countsAfterWindow, noCounts}
-use Rattle.history.specs.Kept.{History, withAccount, withCounts, withHost}
+use Rattle.history.specs.Counters.{countersAfterPrst, countersAfterRest, countersAfterWindow, noCounters}
+use Rattle.history.specs.Kept.{History, withAccount, withCounters, withHost}
 use Rattle.history.specs.Refused.{refusalOf}
 use Rattle.history.specs.Tests.{countedCurrent}
 
@@ -32,7 +32,7 @@ startedHistory settings =
       settings = settings;
       account = fixing 0 ((termsOf settings) .capacity) none;
       host = record { mode = (termsOf settings) .mode; ar = 0 };
-      counts = noCounts;
+      counters = noCounters;
     }
 
 -- "It is fed the opened configuration"
@@ -53,7 +53,7 @@ hostAfter address value host =
 unfoldable pub afterCommand : Command → History → History
 afterCommand (Setting setting) x = withAccount (afterSetting setting (x .host .ar) (x .account)) x
 afterCommand (Reset Prst) x =
-    withCounts (countsAfterPrst (x .counts)) (withHost ((startedHistory (x .settings)) .host) (withAccount (withRun none (x .account)) x))
+    withCounters (countersAfterPrst (x .counters)) (withHost ((startedHistory (x .settings)) .host) (withAccount (withRun none (x .account)) x))
 afterCommand (Reset Frst) x = startedHistory (x .settings)
 
 -- "After each command the five MODE bits are cleared."
@@ -73,10 +73,10 @@ afterWrite address value x =
 
 unfoldable pub afterWork : Call → History → History
 afterWork (window a v t) x =
-    withCounts (countsAfterWindow (x .account .learned) (countedCurrent (termsOf (x .settings)) a) (x .counts))
+    withCounters (countersAfterWindow (x .account .learned) (countedCurrent (termsOf (x .settings)) a) (x .counters))
     (withAccount (afterWindow (termsOf (x .settings)) (countedCurrent (termsOf (x .settings)) a) v t (x .account)) x)
 afterWork (rest n t) x =
-    withCounts (countsAfterRest n (x .counts)) (withAccount (afterRest (termsOf (x .settings)) n t (x .account)) x)
+    withCounters (countersAfterRest n (x .counters)) (withAccount (afterRest (termsOf (x .settings)) n t (x .account)) x)
 afterWork (write address value) x = afterWrite address (value .number) x
 afterWork (read address count place replyLength) x = x
 afterWork (preview key replyLength) x = x

@@ -2,7 +2,7 @@
 use Rattle.configuration.specs.declared.settings.Settings.{Settings}
 use Rattle.host.specs.declared.host.Host.{Host}
 use Rattle.history.specs.Account.{Account}
-use Rattle.history.specs.Counts.{Counts}
+use Rattle.history.specs.Counters.{HistoryCounters}
 
 pub record History : Type 0 where
   -- the configuration bytes in force
@@ -12,13 +12,13 @@ pub record History : Type 0 where
   -- "MODE and AR"
   pub host : Host
   -- rest windows (A4 of paper 02), cycles and their drain (A5)
-  pub counts : Counts
+  pub counters : HistoryCounters
 
 abbrev pub withAccount : Account → History → History
-withAccount account x = record { settings = x .settings; account = account; host = x .host; counts = x .counts }
+withAccount account x = record { settings = x .settings; account = account; host = x .host; counters = x .counters }
 
 abbrev pub withHost : Host → History → History
-withHost host x = record { settings = x .settings; account = x .account; host = host; counts = x .counts }
+withHost host x = record { settings = x .settings; account = x .account; host = host; counters = x .counters }
 
-abbrev pub withCounts : Counts → History → History
-withCounts counts x = record { settings = x .settings; account = x .account; host = x .host; counts = counts }
+abbrev pub withCounters : HistoryCounters → History → History
+withCounters counters x = record { settings = x .settings; account = x .account; host = x .host; counters = counters }

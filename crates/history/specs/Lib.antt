@@ -2,7 +2,7 @@ pub mod Account
 pub mod After
 pub mod Call
 pub mod Claim
-pub mod Counts
+pub mod Counters
 pub mod Drain
 pub mod History
 pub mod Kept

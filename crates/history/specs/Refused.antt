@@ -31,5 +31,5 @@ refusalOf (preview key replyLength) x =
     orElse (decisionNumber (decide (key .number) (x .host .mode) (x .host .ar))) (cond (eqb replyLength 128) Refusal.none Refusal.bufferLength)
 -- "15 fewer than 422 rest windows, then 16 voltage outside the table", 3,000 to 4,200
 refusalOf (estimate v) x =
-    orElse (cond (ltb (x .counts .rests) 422) Refusal.notRested Refusal.none)
+    orElse (cond (ltb (x .counters .rests) 422) Refusal.notRested Refusal.none)
     (cond (leZ (pos 3_000) v && leZ v (pos 4_200)) Refusal.none Refusal.outsideTable)

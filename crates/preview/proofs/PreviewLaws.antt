@@ -53,10 +53,10 @@ module _ (g : Gauge) (key : ℕ) (reply : List ℕ) (before : ℕ) where
       previewed l p q r =
           let e = number-is ∙ z in
           let f = eq-eqb (length reply) registerCount l in
-          let gauge-is : answer .gauge ≡ (onCopy g key) .gauge = ap (λ (x : Answer). x .gauge) a in (
-            p ∙ ap (λ (x : Gauge). readRefusal x 0x00 registerCount 0 (length reply)) gauge-is ∙ reads g key reply e l ∙ sym (simp (e, f)),
+          let same-gauge : answer .gauge ≡ (onCopy g key) .gauge = ap (λ (x : Answer). x .gauge) a in (
+            p ∙ ap (λ (x : Gauge). readRefusal x 0x00 registerCount 0 (length reply)) same-gauge ∙ reads g key reply e l ∙ sym (simp (e, f)),
             (
-              q ∙ ap (λ (x : Gauge). Reading.replyAfter x 0x00 registerCount 0 reply) gauge-is ∙ simp (e, f),
+              q ∙ ap (λ (x : Gauge). Reading.replyAfter x 0x00 registerCount 0 reply) same-gauge ∙ simp (e, f),
               r ∙ simp (e, f),
             ),
           )

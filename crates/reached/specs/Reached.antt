@@ -7,7 +7,7 @@ use Rattle.charge.specs.declared.charge.Charge.{Charge}
 use Rattle.configuration.specs.Terms.{Terms}
 use Rattle.flags.specs.Flags.{atEdv1, atEdvf, atTaught}
 use Rattle.flags.specs.declared.flags.Flags.{Flags}
-use Rattle.sample.specs.Current.{discharge}
+use Rattle.sample.specs.Current.{dischargeCurrent}
 use Rattle.sample.specs.declared.current.Current.{Current}
 use Rattle.reached.specs.Ending.{endingOf}
 use Rattle.reached.specs.Full.{isFull}
@@ -26,7 +26,7 @@ unfoldable pub reachedBy : Terms → Current → ℕ → ℕ → Charge → Reac
 reachedBy terms c v t x =
     record {
       full = isFull terms c v (x .held) (x .lmd);
-      ending = endingOf terms (x .run .vdq) (discharge c) v t;
+      ending = endingOf terms (x .run .vdq) (dischargeCurrent c) v t;
     }
 
 -- ---- done

@@ -3,7 +3,7 @@ use mathlib.Core.Path.{_≡_, ap, _∙_}
 use Prim.Native.Nat.{ℕ, _-_, _*_}
 use Rattle.compensation.specs.Compensation.{minutes}
 use Rattle.gauge.specs.declared.state.Gauge.{Gauge}
-use Rattle.sample.specs.Current.{charge}
+use Rattle.sample.specs.Current.{chargeCurrent}
 use Rattle.registers.specs.Times.{artte, stte, tte, ttf}
 use Rattle.registers.specs.Values.{cac, nac, presentDischarge, si, usableAt}
 
@@ -12,7 +12,7 @@ module _ (g : Gauge) where
   unfolding tte
   tte-is {i = i} p q e = e ∙ ap (λ (k : ℕ). minutes (60 * k) i) p ∙ ap (minutes (60 * cac g)) q
 
-  pub ttf-is : {n i r : ℕ} → n ≡ nac g → i ≡ charge (g .sample .current) → r ≡ minutes (90 * (g .charge .lmd - n)) i → r ≡ ttf g
+  pub ttf-is : {n i r : ℕ} → n ≡ nac g → i ≡ chargeCurrent (g .sample .current) → r ≡ minutes (90 * (g .charge .lmd - n)) i → r ≡ ttf g
   unfolding ttf
   ttf-is {i = i} p q e =
       e

@@ -4,7 +4,7 @@ use Rattle.compensation.specs.Compensation.{compensated, dcmp}
 use Rattle.flags.specs.Byte.{flagsByte}
 use Rattle.gauge.specs.declared.state.Gauge.{Gauge}
 use Rattle.grains.specs.Grains as Grains
-use Rattle.sample.specs.Current.{discharge}
+use Rattle.sample.specs.Current.{dischargeCurrent}
 use Rattle.standby.specs.Standby.{shown}
 
 -- "NAC = floor(h / G)"
@@ -29,7 +29,7 @@ usableAt g i = compensated (nac g) (agedDcmp g i)
 
 -- IAV "if c < 0", else 0
 abbrev pub presentDischarge : Gauge → ℕ
-presentDischarge g = discharge (g .sample .current)
+presentDischarge g = dischargeCurrent (g .sample .current)
 
 -- "D = DCMP(IAV) if c < 0, else DCMP(0)"
 unfoldable pub reduction : Gauge → ℕ

@@ -14,7 +14,10 @@ pub(crate) fn tte(gauge: Gauge) -> u16
     requires { ⌜ accepted gauge ≡ true ⌝ }
     ensures { λ r. ⌜ r ≡ Spec.tte gauge ⌝ }
 {
-    minutes(60 * cac(gauge) as u32, gauge.sample.current.discharge())
+    minutes(
+        60 * cac(gauge) as u32,
+        gauge.sample.current.discharge_current(),
+    )
 }
 
 pub(crate) fn ttf(gauge: Gauge) -> u16
@@ -22,7 +25,7 @@ pub(crate) fn ttf(gauge: Gauge) -> u16
     ensures { λ r. ⌜ r ≡ Spec.ttf gauge ⌝ }
 {
     let missing = gauge.charge.lmd - nac(gauge);
-    minutes(90 * missing as u32, gauge.sample.current.charge())
+    minutes(90 * missing as u32, gauge.sample.current.charge_current())
 }
 
 pub(crate) fn stte(gauge: Gauge) -> u16

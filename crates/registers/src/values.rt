@@ -43,7 +43,7 @@ pub(crate) fn cac(gauge: Gauge) -> u16
     requires { ⌜ accepted gauge ≡ true ⌝ }
     ensures { λ r. ⌜ r ≡ Spec.cac gauge ⌝ }
 {
-    usable_at(gauge, gauge.sample.current.discharge())
+    usable_at(gauge, gauge.sample.current.discharge_current())
 }
 
 // D, the compensation at the last counted current.
@@ -53,7 +53,7 @@ fn reduction(gauge: Gauge) -> u64
     let settings = gauge.settings;
     dcmp(
         settings,
-        gauge.sample.current.discharge(),
+        gauge.sample.current.discharge_current(),
         gauge.sample.temperature,
         gauge.counters.cycles.cyct,
     )

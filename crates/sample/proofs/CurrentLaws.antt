@@ -3,15 +3,15 @@ use mathlib.Core.Bool.{Bool, true, false, cond}
 use mathlib.Core.Path.{_≡_}
 use Prim.Native.Nat.{ℕ, _≤_}
 use native.Mathlib.Omega.{arith}
-use Rattle.sample.specs.Current.{charge}
+use Rattle.sample.specs.Current.{chargeCurrent}
 use Rattle.sample.specs.declared.current.Current.{Current}
 
-pub no-charge : (c : Current) → c .charging ≡ false → charge c ≡ 0
-unfolding charge
+pub no-charge : (c : Current) → c .charging ≡ false → chargeCurrent c ≡ 0
+unfolding chargeCurrent
 no-charge c e = simp e
 
-pub charge-within : (c : Current) → charge c ≤ c .magnitude
-unfolding charge
+pub charge-within : (c : Current) → chargeCurrent c ≤ c .magnitude
+unfolding chargeCurrent
 charge-within c = go (c .charging)
   where
     go : (t : Bool) → cond t (c .magnitude) 0 ≤ c .magnitude

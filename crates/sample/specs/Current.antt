@@ -13,9 +13,9 @@ unfoldable pub counted : ℕ → Current → Current
 counted dmf a = cond (leb (a .magnitude) dmf) noCurrent a
 
 -- c where c > 0, else 0
-unfoldable pub charge : Current → ℕ
-charge c = cond (c .charging) (c .magnitude) 0
+unfoldable pub chargeCurrent : Current → ℕ
+chargeCurrent c = cond (c .charging) (c .magnitude) 0
 
 -- |c| where c < 0, else 0
-unfoldable pub discharge : Current → ℕ
-discharge c = cond (c .charging) 0 (c .magnitude)
+unfoldable pub dischargeCurrent : Current → ℕ
+dischargeCurrent c = cond (c .charging) 0 (c .magnitude)

@@ -30,8 +30,8 @@ impl Current {
     }
 
     // c where c > 0, else 0.
-    pub fn charge(self) -> u16
-        ensures { λ r. ⌜ r ≡ Spec.charge self ⌝ }
+    pub fn charge_current(self) -> u16
+        ensures { λ r. ⌜ r ≡ Spec.chargeCurrent self ⌝ }
     {
         if self.charging {
             return self.magnitude;
@@ -40,8 +40,8 @@ impl Current {
     }
 
     // |c| where c < 0, else 0.
-    pub fn discharge(self) -> u16
-        ensures { λ r. ⌜ r ≡ Spec.discharge self ⌝ }
+    pub fn discharge_current(self) -> u16
+        ensures { λ r. ⌜ r ≡ Spec.dischargeCurrent self ⌝ }
     {
         if self.charging {
             return 0;

@@ -11,7 +11,7 @@ use Rattle.drive.specs.Claim.{countsHeld, partOfLearned, runAt}
 use Rattle.form.specs.Form.{newest}
 use Rattle.history.specs.Account.{afterSums, fixing}
 use Rattle.history.specs.Claim.{begun, runOf}
-use Rattle.history.specs.Counts.{cycleCount, restCount}
+use Rattle.history.specs.Counters.{cycleCount, restCount}
 use Rattle.history.specs.Drain.{unlessAbove}
 use Rattle.history.specs.History.{hostAfter}
 use Rattle.history.specs.Tests.{qualifies, reachesFull, stopsEmpty}

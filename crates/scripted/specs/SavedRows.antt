@@ -7,7 +7,7 @@ use Prim.Native.Nat.{ℕ, zero, suc, _+_, _*_}
 use lib.Dec.{eqb}
 use lib.ListN.{length, replicate, set, take}
 use Rattle.configuration.specs.Settings.{openedSettings}
-use Rattle.drive.specs.OlderForms.{counts, gaugeOf41}
+use Rattle.drive.specs.OlderForms.{countersOf, gaugeOf41}
 use Rattle.every_form.specs.EveryForm.{expectedBy, loadAnswer}
 use Rattle.form.specs.Form.{Dcr, Field, Flags, Held, Rests, Standby, form1, form4, formOf, nameNumber, newest, ofNumber, placeOf, sameName, widthOf}
 use Rattle.form.specs.InNewest.{inNewest}
@@ -94,7 +94,7 @@ pub record SavedRows : Type 0 where
   -- form 4 in the places of form 5: two bytes 0 behind its count
   pub in-newest : inNewest form4 keptForm4 ≡ set form4Saved 0 4
   -- the places of the first 41 bytes, of bytes that differ at each place: 3 × place + 1
-  pub places-apart : gaugeOf41 (spread 55) 7 (counts 8 9 10)
+  pub places-apart : gaugeOf41 (spread 55) 7 (countersOf 8 9 10)
       ≡ record {
         settings = openedSettings (4 ∷ 7 ∷ 10 ∷ 13 ∷ 16 ∷ 19 ∷ 22 ∷ 25 ∷ 28 ∷ 31 ∷ []);
         charge = record { held = 0x3734_312E_2B28_2522; lmd = 0x5552; run = record { vdq = false; dcr = 0x4F4C_4946_4340_3D3A } };

@@ -102,7 +102,7 @@ runNumber (some r) = pos r
 abbrev kept : History → List ℤ
 kept x =
     pos (x .account .sums .fixed) ∷ x .account .sums .counted ∷ pos (x .account .sums .leaked) ∷ pos (x .account .learned) ∷ runNumber (x .account .run)
-    ∷ pos (x .host .mode) ∷ pos (x .host .ar) ∷ pos (x .counts .rests) ∷ pos (x .counts .cycles) ∷ pos (x .counts .drain) ∷ []
+    ∷ pos (x .host .mode) ∷ pos (x .host .ar) ∷ pos (x .counters .rests) ∷ pos (x .counters .cycles) ∷ pos (x .counters .drain) ∷ []
 
 abbrev pub historyOf : List ℕ → List Repeated → List ℤ
 historyOf start script = kept (afterCalls (listed script) (startedHistory start))

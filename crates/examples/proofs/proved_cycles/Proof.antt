@@ -17,7 +17,7 @@ use Rattle.gauge.specs.Obey.{decided, obeyed}
 use Rattle.gauge.specs.Opening.{openAnswer, openRefusal, opened}
 use Rattle.gauge.specs.Rest.{rest}
 use Rattle.gauge.specs.Window.{window}
-use Rattle.grains.specs.Leak.{band, leak, leakRate, reached, weight}
+use Rattle.grains.specs.Leak.{band, leak, leakRate, risesUpTo, weight}
 use Rattle.grains.specs.Learning.{learned}
 use Rattle.grains.specs.Run.{drained, runAccepted, unlessPassed}
 use Rattle.host.specs.Host.{commanded, commandsCleared, fullIf, hostObeyed, initCleared, openedHost, stored}
@@ -28,7 +28,7 @@ use Rattle.reached.specs.Reached.{chargeEnded, chargeReached, filledIf, flagsEn
 use Rattle.registers.specs.Map.{lookUp, register, rows}
 use Rattle.registers.specs.Times.{artte, stte, tte, ttf}
 use Rattle.registers.specs.Values.{fcac, reduction, rsoc, usableAt}
-use Rattle.sample.specs.Current.{charge, counted, discharge}
+use Rattle.sample.specs.Current.{chargeCurrent, counted, dischargeCurrent}
 use Rattle.sample.specs.Limits.{zeroOrWithin}
 use Rattle.sample.specs.Range.{between, currentInRange, valueBetween}
 use Rattle.sample.specs.Sample.{currentAccepted, noSample, sampleAccepted, sampleObeyed, sampleRested}
@@ -41,10 +41,10 @@ unfolding chargeAccepted emptied filled heldMoved leaked moved openedCharge runM
     restedOnce decide decideBy highestCommandBit adcgn dcmp dt minutes offsetTerm rateTerm dcompTaken openedMode settingsAccepted countersAccepted
     countersMoved countersObeyed countersRested openedCounters cyclesAccepted cyclesMoved cyctAfter drainWith noCycles flagsByte atEdv1 atEdvf
     atTaught clearedIf flagsObeyed accepted restAnswer storedAt windowAnswer writeAnswer writeRefusal written decided obeyed openAnswer openRefusal
-    opened rest window band leak leakRate reached weight learned drained runAccepted unlessPassed commanded commandsCleared fullIf hostObeyed
+    opened rest window band leak leakRate risesUpTo weight learned drained runAccepted unlessPassed commanded commandsCleared fullIf hostObeyed
     initCleared openedHost stored chargeAfter reachedIn summed endingOf mayTeach isFull chargeEnded chargeReached filledIf flagsEnded reachedBy
-    lookUp register rows artte stte tte ttf fcac reduction rsoc usableAt charge counted discharge zeroOrWithin between currentInRange valueBetween
-    currentAccepted noSample sampleAccepted sampleObeyed sampleRested averaged shown standbyAccepted standbyObeyed
+    lookUp register rows artte stte tte ttf fcac reduction rsoc usableAt chargeCurrent counted dischargeCurrent zeroOrWithin between currentInRange
+    valueBetween currentAccepted noSample sampleAccepted sampleObeyed sampleRested averaged shown standbyAccepted standbyObeyed
 returns c =
     record {
       drain-796 = refl;

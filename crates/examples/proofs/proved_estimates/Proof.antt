@@ -16,7 +16,7 @@ use Rattle.gauge.specs.Obey.{decided, obeyed}
 use Rattle.gauge.specs.Opening.{openAnswer, openRefusal, opened}
 use Rattle.gauge.specs.Rest.{rest}
 use Rattle.gauge.specs.Window.{window}
-use Rattle.grains.specs.Leak.{band, leak, leakRate, reached, weight}
+use Rattle.grains.specs.Leak.{band, leak, leakRate, risesUpTo, weight}
 use Rattle.grains.specs.Learning.{learned}
 use Rattle.grains.specs.Run.{drained, runAccepted, unlessPassed}
 use Rattle.host.specs.Host.{commanded, commandsCleared, fullIf, hostObeyed, initCleared, openedHost, stored}
@@ -26,7 +26,7 @@ use Rattle.reached.specs.ChargeAfter.{chargeAfter, reachedIn, summed}
 use Rattle.reached.specs.Ending.{endingOf, mayTeach}
 use Rattle.reached.specs.Full.{isFull}
 use Rattle.reached.specs.Reached.{chargeEnded, chargeReached, filledIf, flagsEnded, reachedBy}
-use Rattle.sample.specs.Current.{charge, counted, discharge}
+use Rattle.sample.specs.Current.{chargeCurrent, counted, dischargeCurrent}
 use Rattle.sample.specs.Limits.{zeroOrWithin}
 use Rattle.sample.specs.Range.{between, currentInRange, valueBetween}
 use Rattle.sample.specs.Sample.{currentAccepted, noSample, sampleAccepted, sampleObeyed, sampleRested}
@@ -39,10 +39,10 @@ unfolding chargeAccepted emptied filled heldMoved leaked moved openedCharge runM
     restedOnce decide decideBy highestCommandBit openedMode settingsAccepted countersAccepted countersMoved countersObeyed countersRested
     openedCounters cyclesAccepted cyclesMoved cyctAfter drainWith noCycles distanceAfter distanceFrom estimateAfter estimateRefusal estimated atEdv1
     atEdvf atTaught clearedIf flagsObeyed accepted restAnswer storedAt windowAnswer writeAnswer writeRefusal written decided obeyed openAnswer
-    openRefusal opened rest window band leak leakRate reached weight learned drained runAccepted unlessPassed commanded commandsCleared fullIf
+    openRefusal opened rest window band leak leakRate risesUpTo weight learned drained runAccepted unlessPassed commanded commandsCleared fullIf
     hostObeyed initCleared openedHost stored rule inTable permille chargeAfter reachedIn summed endingOf mayTeach isFull chargeEnded chargeReached
-    filledIf flagsEnded reachedBy charge counted discharge zeroOrWithin between currentInRange valueBetween currentAccepted noSample sampleAccepted
-    sampleObeyed sampleRested averaged standbyAccepted standbyObeyed
+    filledIf flagsEnded reachedBy chargeCurrent counted dischargeCurrent zeroOrWithin between currentInRange valueBetween currentAccepted noSample
+    sampleAccepted sampleObeyed sampleRested averaged standbyAccepted standbyObeyed
 returns c =
     record {
       at-3000 = refl;

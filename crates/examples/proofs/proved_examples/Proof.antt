@@ -13,7 +13,7 @@ use Rattle.gauge.specs.Accepted.{accepted}
 use Rattle.gauge.specs.Calls.{windowAnswer}
 use Rattle.gauge.specs.Opening.{openAnswer, openRefusal, opened}
 use Rattle.gauge.specs.Window.{window}
-use Rattle.grains.specs.Leak.{band, leak, leakRate, reached, weight}
+use Rattle.grains.specs.Leak.{band, leak, leakRate, risesUpTo, weight}
 use Rattle.grains.specs.Learning.{learned}
 use Rattle.grains.specs.Run.{drained, runAccepted, unlessPassed}
 use Rattle.host.specs.Host.{fullIf, initCleared, openedHost}
@@ -23,7 +23,7 @@ use Rattle.reached.specs.Full.{isFull}
 use Rattle.reached.specs.Reached.{chargeEnded, chargeReached, filledIf, flagsEnded, reachedBy}
 use Rattle.registers.specs.Times.{tte}
 use Rattle.registers.specs.Values.{rsoc, usableAt}
-use Rattle.sample.specs.Current.{charge, counted, discharge}
+use Rattle.sample.specs.Current.{chargeCurrent, counted, dischargeCurrent}
 use Rattle.sample.specs.Limits.{zeroOrWithin}
 use Rattle.sample.specs.Range.{between, currentInRange, valueBetween}
 use Rattle.sample.specs.Sample.{currentAccepted, noSample, sampleAccepted}
@@ -35,9 +35,9 @@ returns : tie.Need-returns
 unfolding chargeAccepted emptied filled heldMoved leaked moved openedCharge runMoved taught withoutRun decide decideBy highestCommandBit adcgn dcmp
     dt minutes offsetTerm rateTerm dcompTaken openedMode settingsAccepted countersAccepted countersMoved openedCounters cyclesAccepted cyclesMoved
     cyctAfter drainWith noCycles flagsByte atEdv1 atEdvf atTaught clearedIf accepted windowAnswer openAnswer openRefusal opened window band leak
-    leakRate reached weight learned drained runAccepted unlessPassed fullIf initCleared openedHost chargeAfter reachedIn summed endingOf mayTeach
-    isFull chargeEnded chargeReached filledIf flagsEnded reachedBy tte rsoc usableAt charge counted discharge zeroOrWithin between currentInRange
-    valueBetween currentAccepted noSample sampleAccepted averaged standbyAccepted
+    leakRate risesUpTo weight learned drained runAccepted unlessPassed fullIf initCleared openedHost chargeAfter reachedIn summed endingOf mayTeach
+    isFull chargeEnded chargeReached filledIf flagsEnded reachedBy tte rsoc usableAt chargeCurrent counted dischargeCurrent zeroOrWithin between
+    currentInRange valueBetween currentAccepted noSample sampleAccepted averaged standbyAccepted
 returns c =
     record {
       bench-lmd = refl;

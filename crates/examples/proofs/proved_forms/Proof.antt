@@ -19,7 +19,7 @@ use Rattle.load.specs.Load.{acceptedAnswer, answerIn, carriedStandby, formFits,
 use Rattle.registers.specs.Map.{lookUp, register, rows}
 use Rattle.registers.specs.Times.{artte, stte, tte, ttf}
 use Rattle.registers.specs.Values.{fcac, reduction, rsoc, usableAt}
-use Rattle.sample.specs.Current.{charge, discharge}
+use Rattle.sample.specs.Current.{chargeCurrent, dischargeCurrent}
 use Rattle.sample.specs.Limits.{zeroOrWithin}
 use Rattle.sample.specs.Sample.{currentAccepted, noSample, sampleAccepted}
 use Rattle.saved.specs.Save.{fieldBytes, savedBytes}
@@ -31,8 +31,8 @@ returns : tie.Need-returns
 unfolding chargeAccepted openedCharge adcgn dcmp dt minutes offsetTerm rateTerm dcompTaken openedMode settingsAccepted countersAccepted
     openedCounters cyclesAccepted noCycles loadAnswer flagsByte flagsFit flagsOf laidOut currentOf signedPair accepted opened runAccepted openedHost
     bytesIn chargeFrom countersFrom gaugeFrom hostFrom numberIn sampleFrom acceptedAnswer answerIn carriedStandby formFits loaded readIn
-    rejectedAnswer lookUp register rows artte stte tte ttf fcac reduction rsoc usableAt charge discharge zeroOrWithin currentAccepted noSample
-    sampleAccepted fieldBytes savedBytes shown standbyAccepted
+    rejectedAnswer lookUp register rows artte stte tte ttf fcac reduction rsoc usableAt chargeCurrent dischargeCurrent zeroOrWithin currentAccepted
+    noSample sampleAccepted fieldBytes savedBytes shown standbyAccepted
 returns c =
     record {
       length-41 = refl;

@@ -15,7 +15,7 @@ use Rattle.gauge.specs.Calls.{storedAt, windowAnswer, writeAnswer, writeRefusal
 use Rattle.gauge.specs.Obey.{decided, obeyed}
 use Rattle.gauge.specs.Opening.{openAnswer, openRefusal, opened}
 use Rattle.gauge.specs.Window.{window}
-use Rattle.grains.specs.Leak.{band, leak, leakRate, reached, weight}
+use Rattle.grains.specs.Leak.{band, leak, leakRate, risesUpTo, weight}
 use Rattle.grains.specs.Learning.{learned}
 use Rattle.grains.specs.Run.{drained, runAccepted, unlessPassed}
 use Rattle.host.specs.Host.{commanded, commandsCleared, fullIf, hostObeyed, initCleared, openedHost, stored}
@@ -30,7 +30,7 @@ use Rattle.registers.specs.Reading as Reading
 use Rattle.registers.specs.Reading.{placeRefusal, readRefusal}
 use Rattle.registers.specs.Times.{artte, stte, tte, ttf}
 use Rattle.registers.specs.Values.{fcac, reduction, rsoc, usableAt}
-use Rattle.sample.specs.Current.{charge, counted, discharge}
+use Rattle.sample.specs.Current.{chargeCurrent, counted, dischargeCurrent}
 use Rattle.sample.specs.Limits.{zeroOrWithin}
 use Rattle.sample.specs.Range.{between, currentInRange, valueBetween}
 use Rattle.sample.specs.Sample.{currentAccepted, noSample, sampleAccepted, sampleObeyed}
@@ -43,11 +43,11 @@ unfolding chargeAccepted emptied filled heldMoved leaked moved openedCharge runM
     decide decideBy highestCommandBit adcgn dcmp dt minutes offsetTerm rateTerm dcompTaken openedMode settingsAccepted countersAccepted
     countersMoved countersObeyed openedCounters cyclesAccepted cyclesMoved cyctAfter drainWith noCycles flagsByte atEdv1 atEdvf atTaught clearedIf
     flagsObeyed accepted storedAt windowAnswer writeAnswer writeRefusal written decided obeyed openAnswer openRefusal opened window band leak
-    leakRate reached weight learned drained runAccepted unlessPassed commanded commandsCleared fullIf hostObeyed initCleared openedHost stored
+    leakRate risesUpTo weight learned drained runAccepted unlessPassed commanded commandsCleared fullIf hostObeyed initCleared openedHost stored
     commandAfter previewRefusal Preview.replyAfter chargeAfter reachedIn summed endingOf mayTeach isFull chargeEnded chargeReached filledIf
     flagsEnded reachedBy lookUp register registersFrom rows placeRefusal readRefusal Reading.replyAfter artte stte tte ttf fcac reduction rsoc
-    usableAt charge counted discharge zeroOrWithin between currentInRange valueBetween currentAccepted noSample sampleAccepted sampleObeyed averaged
-    shown standbyAccepted standbyObeyed
+    usableAt chargeCurrent counted dischargeCurrent zeroOrWithin between currentInRange valueBetween currentAccepted noSample sampleAccepted
+    sampleObeyed averaged shown standbyAccepted standbyObeyed
 returns c =
     record {
       wrtnac = refl;

@@ -14,7 +14,7 @@ use Rattle.gauge.specs.Calls.{restAnswer, storedAt, writeAnswer, writeRefusal, 
 use Rattle.gauge.specs.Obey.{decided, obeyed}
 use Rattle.gauge.specs.Opening.{openAnswer, openRefusal, opened}
 use Rattle.gauge.specs.Rest.{rest}
-use Rattle.grains.specs.Leak.{band, leak, leakRate, reached, weight}
+use Rattle.grains.specs.Leak.{band, leak, leakRate, risesUpTo, weight}
 use Rattle.grains.specs.Rest.{stepWindows}
 use Rattle.grains.specs.Run.{drained, runAccepted, unlessPassed}
 use Rattle.host.specs.Host.{commanded, commandsCleared, fullIf, hostObeyed, initCleared, openedHost, stored}
@@ -28,7 +28,7 @@ use Rattle.examples.proofs.proved_rests.Tie as tie
 returns : tie.Need-returns
 unfolding chargeAccepted filled leaked openedCharge withoutRun chargeObeyed writtenLmd writtenNac rested restedOnce decide decideBy
     highestCommandBit openedMode settingsAccepted countersAccepted countersObeyed countersRested openedCounters cyclesAccepted noCycles flagsObeyed
-    accepted restAnswer storedAt writeAnswer writeRefusal written decided obeyed openAnswer openRefusal opened rest band leak leakRate reached
+    accepted restAnswer storedAt writeAnswer writeRefusal written decided obeyed openAnswer openRefusal opened rest band leak leakRate risesUpTo
     weight stepWindows drained runAccepted unlessPassed commanded commandsCleared fullIf hostObeyed initCleared openedHost stored zeroOrWithin
     between valueBetween currentAccepted noSample sampleAccepted sampleObeyed sampleRested standbyAccepted standbyObeyed
 returns c =

@@ -15,7 +15,7 @@ use Rattle.gauge.specs.Calls.{storedAt, windowAnswer, writeAnswer, writeRefusal
 use Rattle.gauge.specs.Obey.{decided, obeyed}
 use Rattle.gauge.specs.Opening.{openAnswer, openRefusal, opened}
 use Rattle.gauge.specs.Window.{window}
-use Rattle.grains.specs.Leak.{band, leak, leakRate, reached, weight}
+use Rattle.grains.specs.Leak.{band, leak, leakRate, risesUpTo, weight}
 use Rattle.grains.specs.Learning.{learned}
 use Rattle.grains.specs.Run.{drained, runAccepted, unlessPassed}
 use Rattle.host.specs.Host.{commanded, commandsCleared, fullIf, hostObeyed, initCleared, openedHost, stored}
@@ -25,7 +25,7 @@ use Rattle.reached.specs.Full.{isFull}
 use Rattle.reached.specs.Reached.{chargeEnded, chargeReached, filledIf, flagsEnded, reachedBy}
 use Rattle.registers.specs.Times.{artte, stte, tte, ttf}
 use Rattle.registers.specs.Values.{fcac, reduction, usableAt}
-use Rattle.sample.specs.Current.{charge, counted, discharge}
+use Rattle.sample.specs.Current.{chargeCurrent, counted, dischargeCurrent}
 use Rattle.sample.specs.Limits.{zeroOrWithin}
 use Rattle.sample.specs.Range.{between, currentInRange, valueBetween}
 use Rattle.sample.specs.Sample.{currentAccepted, noSample, sampleAccepted, sampleObeyed}
@@ -37,10 +37,10 @@ returns : tie.Need-returns
 unfolding chargeAccepted emptied filled heldMoved leaked moved openedCharge runMoved taught withoutRun chargeObeyed writtenLmd writtenNac decide
     decideBy highestCommandBit adcgn dcmp dt minutes offsetTerm rateTerm dcompTaken openedMode settingsAccepted countersAccepted countersMoved
     countersObeyed openedCounters cyclesAccepted cyclesMoved cyctAfter drainWith noCycles flagsByte atEdv1 atEdvf atTaught clearedIf flagsObeyed
-    accepted storedAt windowAnswer writeAnswer writeRefusal written decided obeyed openAnswer openRefusal opened window band leak leakRate reached
+    accepted storedAt windowAnswer writeAnswer writeRefusal written decided obeyed openAnswer openRefusal opened window band leak leakRate risesUpTo
     weight learned drained runAccepted unlessPassed commanded commandsCleared fullIf hostObeyed initCleared openedHost stored chargeAfter reachedIn
-    summed endingOf mayTeach isFull chargeEnded chargeReached filledIf flagsEnded reachedBy artte stte tte ttf fcac reduction usableAt charge
-    counted discharge zeroOrWithin between currentInRange valueBetween currentAccepted noSample sampleAccepted sampleObeyed averaged shown
+    summed endingOf mayTeach isFull chargeEnded chargeReached filledIf flagsEnded reachedBy artte stte tte ttf fcac reduction usableAt chargeCurrent
+    counted dischargeCurrent zeroOrWithin between currentInRange valueBetween currentAccepted noSample sampleAccepted sampleObeyed averaged shown
     standbyAccepted standbyObeyed
 returns c =
     record {

@@ -15,7 +15,7 @@ use Rattle.gauge.specs.Calls.{storedAt, windowAnswer, writeAnswer, writeRefusal
 use Rattle.gauge.specs.Obey.{decided, obeyed}
 use Rattle.gauge.specs.Opening.{openAnswer, openRefusal, opened}
 use Rattle.gauge.specs.Window.{window}
-use Rattle.grains.specs.Leak.{band, leak, leakRate, reached, weight}
+use Rattle.grains.specs.Leak.{band, leak, leakRate, risesUpTo, weight}
 use Rattle.grains.specs.Learning.{learned}
 use Rattle.grains.specs.Run.{drained, runAccepted, unlessPassed}
 use Rattle.host.specs.Host.{commanded, commandsCleared, fullIf, hostObeyed, initCleared, openedHost, stored}
@@ -24,7 +24,7 @@ use Rattle.reached.specs.Ending.{endingOf, mayTeach}
 use Rattle.reached.specs.Full.{isFull}
 use Rattle.reached.specs.Reached.{chargeEnded, chargeReached, filledIf, flagsEnded, reachedBy}
 use Rattle.registers.specs.Times.{stte}
-use Rattle.sample.specs.Current.{charge, counted, discharge}
+use Rattle.sample.specs.Current.{chargeCurrent, counted, dischargeCurrent}
 use Rattle.sample.specs.Limits.{zeroOrWithin}
 use Rattle.sample.specs.Range.{between, currentInRange, valueBetween}
 use Rattle.sample.specs.Sample.{currentAccepted, noSample, sampleAccepted, sampleObeyed}
@@ -36,10 +36,10 @@ returns : tie.Need-returns
 unfolding chargeAccepted emptied filled heldMoved leaked moved openedCharge runMoved taught withoutRun chargeObeyed writtenLmd writtenNac decide
     decideBy highestCommandBit minutes openedMode settingsAccepted countersAccepted countersMoved countersObeyed openedCounters cyclesAccepted
     cyclesMoved cyctAfter drainWith noCycles afterLoads atEdv1 atEdvf atTaught clearedIf flagsObeyed accepted storedAt windowAnswer writeAnswer
-    writeRefusal written decided obeyed openAnswer openRefusal opened window band leak leakRate reached weight learned drained runAccepted
+    writeRefusal written decided obeyed openAnswer openRefusal opened window band leak leakRate risesUpTo weight learned drained runAccepted
     unlessPassed commanded commandsCleared fullIf hostObeyed initCleared openedHost stored chargeAfter reachedIn summed endingOf mayTeach isFull
-    chargeEnded chargeReached filledIf flagsEnded reachedBy stte charge counted discharge zeroOrWithin between currentInRange valueBetween
-    currentAccepted noSample sampleAccepted sampleObeyed averaged shown standbyAccepted standbyObeyed
+    chargeEnded chargeReached filledIf flagsEnded reachedBy stte chargeCurrent counted dischargeCurrent zeroOrWithin between currentInRange
+    valueBetween currentAccepted noSample sampleAccepted sampleObeyed averaged shown standbyAccepted standbyObeyed
 returns c =
     record {
       opened-480 = refl;

@@ -35,7 +35,7 @@ use Rattle.gauge.specs.Obey.{decided, obeyed}
 use Rattle.gauge.specs.Opening.{openAnswer, openRefusal, opened}
 use Rattle.gauge.specs.Rest.{rest}
 use Rattle.gauge.specs.Window.{window}
-use Rattle.grains.specs.Leak.{band, leak, leakRate, reached, weight}
+use Rattle.grains.specs.Leak.{band, leak, leakRate, risesUpTo, weight}
 use Rattle.grains.specs.Learning.{learned}
 use Rattle.grains.specs.Rest.{restLeak}
 use Rattle.grains.specs.Run.{drained, runAccepted, unlessPassed}
@@ -75,7 +75,7 @@ use Rattle.registers.specs.Times.{artte, stte, tte, ttf}
 use Rattle.registers.specs.Values.{fcac, reduction, rsoc, usableAt}
 use Rattle.registers.specs.Whole.{allAnswer}
 use Rattle.round_trip.specs.RoundTrip.{reloadedAnswer}
-use Rattle.sample.specs.Current.{charge, counted, discharge}
+use Rattle.sample.specs.Current.{chargeCurrent, counted, dischargeCurrent}
 use Rattle.sample.specs.Limits.{zeroOrWithin}
 use Rattle.sample.specs.Range.{between, currentInRange, valueBetween}
 use Rattle.sample.specs.Sample.{currentAccepted, noSample, sampleAccepted, sampleObeyed, sampleRested}
@@ -94,7 +94,7 @@ unfolding endedAt Feed.fed fedAt isEnded lastOutput lastOutputAt afterFirst fedF
     noCycles bytesAfter calledBytes calledNumber bytesAfterSteps callsOf stepBytes distanceAfter distanceFrom estimateAfter estimateRefusal
     estimated loadAnswer flagsByte flagsFit flagsOf atEdv1 atEdvf atTaught clearedIf flagsObeyed laidOut inNewest widened currentOf signedPair
     accepted keyAnswer restAnswer storedAt windowAnswer writeAnswer writeRefusal written decided obeyed openAnswer openRefusal opened rest window
-    band leak leakRate reached weight learned restLeak drained runAccepted unlessPassed callBytes callNumber convertBytes convertNumber lookLeaves
+    band leak leakRate risesUpTo weight learned restLeak drained runAccepted unlessPassed callBytes callNumber convertBytes convertNumber lookLeaves
     lookNumber openBytes openNumber hostPlace keptBytes keptNumber afterEmptyStop afterFull afterRest afterRestWindow afterRun afterSetting
     afterSums afterVoltage afterWindow leakNow after gaugeAfter numberOf begun gains unlessAbove afterCall afterCalls afterCommand afterKey
     afterWork afterWrite hostAfter startedHistory refusalOf chargeOf countedCurrent qualifies reachesE1 reachesEdvf reachesFull stopsEmpty commanded
@@ -103,9 +103,9 @@ unfolding endedAt Feed.fed fedAt isEnded lastOutput lastOutputAt afterFirst fedF
     gaugeFrom hostFrom numberIn sampleFrom acceptedAnswer answerIn carriedStandby decodedGauge formFits loaded ofLength readIn rejectedAnswer rule
     inTable permille commandAfter previewRefusal Preview.replyAfter chargeAfter reachedIn summed endingOf mayTeach isFull chargeEnded chargeReached
     filledIf flagsEnded reachedBy lookUp register registersFrom rows placeRefusal readRefusal Reading′.replyAfter artte stte tte ttf fcac reduction
-    rsoc usableAt allAnswer reloadedAnswer charge counted discharge zeroOrWithin between currentInRange valueBetween currentAccepted noSample
-    sampleAccepted sampleObeyed sampleRested chargePut countersPut headed hostPut samplePut bufferAfter fieldBytes putAfter saveRefusal savedBytes
-    averaged shown standbyAccepted standbyObeyed
+    rsoc usableAt allAnswer reloadedAnswer chargeCurrent counted dischargeCurrent zeroOrWithin between currentInRange valueBetween currentAccepted
+    noSample sampleAccepted sampleObeyed sampleRested chargePut countersPut headed hostPut samplePut bufferAfter fieldBytes putAfter saveRefusal
+    savedBytes averaged shown standbyAccepted standbyObeyed
 returns c =
     record {
       registers = record {

@@ -13,8 +13,8 @@ cast-minutes c = search needs
 mul-minutes : tie.Need-mul-minutes
 mul-minutes c = search needs
 
-discharge-requires : tie.Need-discharge-requires
-discharge-requires c κs = tt
+discharge-current-requires : tie.Need-discharge-current-requires
+discharge-current-requires c κs = tt
 
 minutes-requires : tie.Need-minutes-requires
 minutes-requires c κs = tt
@@ -23,9 +23,9 @@ returns : tie.Need-returns
 returns c =
     let p = c .before in
     let q = p .before in
-    tte-is (q .before .args .gauge) (q .cac .ensures) (p .discharge .ensures) (c .minutes .ensures)
+    tte-is (q .before .args .gauge) (q .cac .ensures) (p .discharge-current .ensures) (c .minutes .ensures)
 
 pub tte-spec : {M : Type 1} → statement M
 tte-spec =
     tie.close
-    (tie.spec cac-requires cast-minutes mul-minutes discharge-requires minutes-requires returns)
+    (tie.spec cac-requires cast-minutes mul-minutes discharge-current-requires minutes-requires returns)

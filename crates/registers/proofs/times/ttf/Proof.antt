@@ -16,8 +16,8 @@ cast-minutes c = search needs
 mul-minutes : tie.Need-mul-minutes
 mul-minutes c = search needs
 
-charge-requires : tie.Need-charge-requires
-charge-requires c κs = tt
+charge-current-requires : tie.Need-charge-current-requires
+charge-current-requires c κs = tt
 
 minutes-requires : tie.Need-minutes-requires
 minutes-requires c κs = tt
@@ -26,7 +26,7 @@ returns : tie.Need-returns
 returns c =
     let p = c .before in
     let q = p .before .before in
-    ttf-is (q .before .args .gauge) (q .nac .ensures .0) (p .charge .ensures) (c .minutes .ensures)
+    ttf-is (q .before .args .gauge) (q .nac .ensures .0) (p .charge-current .ensures) (c .minutes .ensures)
 
 pub ttf-spec : {M : Type 1} → statement M
 ttf-spec =
@@ -36,6 +36,6 @@ ttf-spec =
     sub-missing
     cast-minutes
     mul-minutes
-    charge-requires
+    charge-current-requires
     minutes-requires
     returns)

@@ -3,8 +3,8 @@ use Rattle.registers.proofs.ValuesLaws.{cac-is}
 use Rattle.registers.proofs.values.cac.Statement.{statement}
 use Rattle.registers.proofs.values.cac.Tie as tie
 
-discharge-requires : tie.Need-discharge-requires
-discharge-requires c κs = tt
+discharge-current-requires : tie.Need-discharge-current-requires
+discharge-current-requires c κs = tt
 
 usable-at-requires : tie.Need-usable-at-requires
 usable-at-requires c κs = c .before .pre
@@ -12,7 +12,7 @@ usable-at-requires c κs = c .before .pre
 returns : tie.Need-returns
 returns c =
     let p = c .before in
-    cac-is (p .before .args .gauge) (p .discharge .ensures) (c .usable-at .ensures)
+    cac-is (p .before .args .gauge) (p .discharge-current .ensures) (c .usable-at .ensures)
 
 pub cac-spec : {M : Type 1} → statement M
-cac-spec = tie.close (tie.spec discharge-requires usable-at-requires returns)
+cac-spec = tie.close (tie.spec discharge-current-requires usable-at-requires returns)

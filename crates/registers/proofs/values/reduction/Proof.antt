@@ -3,8 +3,8 @@ use Rattle.registers.proofs.ValuesLaws.{reduction-is}
 use Rattle.registers.proofs.values.reduction.Statement.{statement}
 use Rattle.registers.proofs.values.reduction.Tie as tie
 
-discharge-requires : tie.Need-discharge-requires
-discharge-requires c κs = tt
+discharge-current-requires : tie.Need-discharge-current-requires
+discharge-current-requires c κs = tt
 
 dcmp-requires : tie.Need-dcmp-requires
 dcmp-requires c κs = tt
@@ -12,7 +12,7 @@ dcmp-requires c κs = tt
 returns : tie.Need-returns
 returns c =
     let p = c .before in
-    reduction-is (p .before .before .args .gauge) (p .discharge .ensures) (c .dcmp .ensures)
+    reduction-is (p .before .before .args .gauge) (p .discharge-current .ensures) (c .dcmp .ensures)
 
 pub reduction-spec : {M : Type 1} → statement M
-reduction-spec = tie.close (tie.spec discharge-requires dcmp-requires returns)
+reduction-spec = tie.close (tie.spec discharge-current-requires dcmp-requires returns)

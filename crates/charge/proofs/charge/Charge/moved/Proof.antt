@@ -8,8 +8,8 @@ use borrow.Author.Needs.{needs}
 use Rattle.charge.proofs.charge.Charge.moved.Statement.{statement}
 use Rattle.charge.proofs.charge.Charge.moved.Tie as tie
 
-discharge-requires : tie.Need-discharge-requires
-discharge-requires c κs = search needs
+discharge-current-requires : tie.Need-discharge-current-requires
+discharge-current-requires c κs = search needs
 
 grains-of-current-requires : tie.Need-grains-of-current-requires
 grains-of-current-requires c κs = search needs
@@ -25,7 +25,7 @@ unfolding moved
 returns c =
     let p = c .before in
     let a = p .before .before .before .before .args in
-    let d = p .before .grains-of-current .ensures ∙ ap grainsOfCurrent (p .before .before .discharge .ensures) in
+    let d = p .before .grains-of-current .ensures ∙ ap grainsOfCurrent (p .before .before .discharge-current .ensures) in
     charge-is (c .held-moved .ensures) refl
     (p .run-moved .ensures ∙ ap (λ (n : ℕ). runMoved (a .current .charging) n (a .self .run)) d)
 
@@ -33,7 +33,7 @@ pub moved-spec : {M : Type 1} → statement M
 moved-spec =
     tie.close
     (tie.spec
-    discharge-requires
+    discharge-current-requires
     grains-of-current-requires
     run-moved-requires
     held-moved-requires

@@ -8,8 +8,8 @@ use borrow.Author.Needs.{needs}
 use Rattle.counters.proofs.cycles.Cycles.moved.Statement.{statement}
 use Rattle.counters.proofs.cycles.Cycles.moved.Tie as tie
 
-discharge-requires : tie.Need-discharge-requires
-discharge-requires c κs = search needs
+discharge-current-requires : tie.Need-discharge-current-requires
+discharge-current-requires c κs = search needs
 
 grains-of-current-requires : tie.Need-grains-of-current-requires
 grains-of-current-requires c κs = search needs
@@ -23,7 +23,7 @@ module _ (c : tie.After-saturating-sum) where
       let g = c .before in
       let d = g .before in
       let a = d .before .args in
-      drain-with (a .current) (a .self .drain) (d .discharge .ensures) (g .grains-of-current .ensures) (c .saturating-sum .ensures)
+      drain-with (a .current) (a .self .drain) (d .discharge-current .ensures) (g .grains-of-current .ensures) (c .saturating-sum .ensures)
 
   small : c .before .before .before .args .self .cyct ≤ mostCycles
   small = omega arith
@@ -64,7 +64,7 @@ pub moved-spec : {M : Type 1} → statement M
 moved-spec =
     tie.close
     (tie.spec
-    discharge-requires
+    discharge-current-requires
     grains-of-current-requires
     saturating-sum-requires
     grains-of-counts-requires

@@ -4,7 +4,7 @@ use Prim.Native.Nat.{ℕ}
 use Rattle.charge.specs.Rest.{rested}
 use Rattle.grains.specs.Leak.{leakRate}
 use Rattle.gauge.specs.Rest.{rest}
-use Rattle.gauge.proofs.GaugeLaws.{gauge-is}
+use Rattle.gauge.proofs.GaugeLaws.{same-settings-alike}
 use borrow.Author.Needs.{needs}
 use Rattle.gauge.proofs.state.Gauge.rested.Statement.{statement}
 use Rattle.gauge.proofs.state.Gauge.rested.Tie as tie
@@ -32,7 +32,7 @@ returns c =
     let q = p .before in
     let a = q .before .before .before .args in
     let rate = q .leak-rate .ensures ∙ ap (λ (n : ℕ). leakRate n (a .temperature)) (q .before .sd .ensures .0) in
-    gauge-is (p .rested .ensures ∙ ap (λ (n : ℕ). rested (a .windows) n (a .self .charge)) rate) (s .rested2 .ensures) refl refl refl
+    same-settings-alike (p .rested .ensures ∙ ap (λ (n : ℕ). rested (a .windows) n (a .self .charge)) rate) (s .rested2 .ensures) refl refl refl
     (c .rested3 .ensures)
 
 pub rested-spec : {M : Type 1} → statement M

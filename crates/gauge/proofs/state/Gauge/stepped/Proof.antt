@@ -10,8 +10,8 @@ summed-requires c κs = search needs
 is-full-requires : tie.Need-is-full-requires
 is-full-requires c κs = search needs
 
-discharge-requires : tie.Need-discharge-requires
-discharge-requires c κs = search needs
+discharge-current-requires : tie.Need-discharge-current-requires
+discharge-current-requires c κs = search needs
 
 ending-of-requires : tie.Need-ending-of-requires
 ending-of-requires c κs = search needs
@@ -31,8 +31,8 @@ flags-ended-requires c κs = search needs
 full-if-requires : tie.Need-full-if-requires
 full-if-requires c κs = search needs
 
-discharge-requires-2 : tie.Need-discharge-requires-2
-discharge-requires-2 c κs = search needs
+discharge-current-requires-2 : tie.Need-discharge-current-requires-2
+discharge-current-requires-2 c κs = search needs
 
 averaged-requires : tie.Need-averaged-requires
 averaged-requires c κs = search needs
@@ -54,9 +54,9 @@ returns c =
     let p9 = p8 .before in
     let p10 = p9 .before in
     let a = p10 .before .before .args in
-    stepped-is (a .current) (a .voltage) (a .temperature) (a .self) (p10 .summed .ensures) (p9 .is-full .ensures) (p8 .discharge .ensures)
+    stepped-is (a .current) (a .voltage) (a .temperature) (a .self) (p10 .summed .ensures) (p9 .is-full .ensures) (p8 .discharge-current .ensures)
     (p7 .ending-of .ensures) (p6 .filled-if .ensures) (p5 .charge-ended .ensures) (p4 .cleared-if .ensures) (p3 .flags-ended .ensures)
-    (p2 .full-if .ensures) (p1 .discharge2 .ensures) (p0 .averaged .ensures) (c .moved .ensures)
+    (p2 .full-if .ensures) (p1 .discharge-current2 .ensures) (p0 .averaged .ensures) (c .moved .ensures)
 
 pub stepped-spec : {M : Type 1} → statement M
 stepped-spec =
@@ -64,14 +64,14 @@ stepped-spec =
     (tie.spec
     summed-requires
     is-full-requires
-    discharge-requires
+    discharge-current-requires
     ending-of-requires
     filled-if-requires
     charge-ended-requires
     cleared-if-requires
     flags-ended-requires
     full-if-requires
-    discharge-requires-2
+    discharge-current-requires-2
     averaged-requires
     moved-requires
     returns)

@@ -3,7 +3,7 @@ use mathlib.Core.Path.{refl, _∙_, sym}
 use borrow.Author.Tests.{not-true, not-false, lt-ltb, le-ltb, eq-eqb, ne-eqb}
 use Rattle.gauge.specs.Calls.{storedAt}
 use Rattle.gauge.proofs.CallLaws.{write-rejected, write-beyond, write-key, write-stored}
-use Rattle.gauge.proofs.GaugeLaws.{gauge-is}
+use Rattle.gauge.proofs.GaugeLaws.{same-settings-alike}
 use borrow.Author.Needs.{needs}
 use Rattle.gauge.proofs.state.Gauge.write.Statement.{statement}
 use Rattle.gauge.proofs.state.Gauge.write.Tie as tie
@@ -44,7 +44,7 @@ returns-4 c =
     let p = q .before .before in
     let a = p .before .args in
     write-stored (a .self) (a .address) (a .value) (sym (p .accepted .ensures) ∙ not-false _ (q .before .if1 .left)) (le-ltb _ _ (q .if2 .left))
-    (ne-eqb _ _ (c .before .if3 .left)) (gauge-is refl refl refl refl (c .stored .ensures) refl)
+    (ne-eqb _ _ (c .before .if3 .left)) (same-settings-alike refl refl refl refl (c .stored .ensures) refl)
 
 pub write-spec : {M : Type 1} → statement M
 write-spec =

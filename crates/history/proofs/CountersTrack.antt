@@ -19,20 +19,20 @@ use Rattle.estimate.specs.Estimate.{leastRests}
 use Rattle.grains.specs.Grains.{grainsOfCounts, grainsOfCurrent, mostDrain}
 use Rattle.numbers.specs.Signed.{magnitude}
 use Rattle.refusals.specs.Refusal as Refusal
-use Rattle.sample.specs.Current.{discharge}
+use Rattle.sample.specs.Current.{dischargeCurrent}
 use Rattle.sample.specs.Range.{currentOf}
-use Rattle.history.specs.Counts.{Counts, countsAfterRest, countsAfterWindow, cycleCount, discharged, restCount}
+use Rattle.history.specs.Counters.{HistoryCounters, countersAfterRest, countersAfterWindow, cycleCount, discharged, restCount}
 use Rattle.history.specs.History.{afterCommand, startedHistory}
 use Rattle.history.specs.Kept.{History}
 use Rattle.history.specs.Sums.{grainsACount}
 use Rattle.history.proofs.WindowTracks.{no-outflow}
 
-pub record CountTracks (y : Counters) (x : Counts) : Type 0 where
+pub record CountersTrack (y : Counters) (x : HistoryCounters) : Type 0 where
   pub rests : y .rests ≡ restCount x
   pub cycles : y .cycles .cyct ≡ cycleCount x
   pub drain : y .cycles .drain ≡ x .drain
 
-pub begun-counts : (y : Counters) → CountersFit y → CountTracks y (record { rests = y .rests; cycles = y .cycles .cyct; drain = y .cycles .drain })
+pub begun-counts : (y : Counters) → CountersFit y → CountersTrack y (record { rests = y .rests; cycles = y .cycles .cyct; drain = y .cycles .drain })
 begun-counts y f =
     let h = f .rests in
     let k = f .cyct in
@@ -41,27 +41,27 @@ begun-counts y f =
 -- ---- a window
 
 -- what is discharged is the same for both
-outflow-is : (c : ℤ) → grainsOfCurrent (discharge (currentOf c)) ≡ discharged c
-unfolding discharge
+outflow-is : (c : ℤ) → grainsOfCurrent (dischargeCurrent (currentOf c)) ≡ discharged c
+unfolding dischargeCurrent
 outflow-is (pos n) = ap grainsOfCurrent (no-outflow n)
 outflow-is (negsuc n) = refl
 
-outflow-within : (c : ℤ) → magnitude c ≤ 65_535 → discharge (currentOf c) ≤ 65_535
-unfolding discharge
+outflow-within : (c : ℤ) → magnitude c ≤ 65_535 → dischargeCurrent (currentOf c) ≤ 65_535
+unfolding dischargeCurrent
 outflow-within (pos n) h = let e = no-outflow n in omega arith
 outflow-within (negsuc n) h = h
 
-kept-alike : (t : Bool) {a : ℕ} (x : Counts) → a ≡ restCount x → cond t a 0 ≡ min (cond t (x .rests) 0) 4_294_967_295
+kept-alike : (t : Bool) {a : ℕ} (x : HistoryCounters) → a ≡ restCount x → cond t a 0 ≡ min (cond t (x .rests) 0) 4_294_967_295
 kept-alike true x e = e
 kept-alike false x e = refl
 
-module _ (y : Counters) (x : Counts) (k : CountTracks y x) where
-  pub rest-counts : (n : ℕ) → CountTracks (countersRested n y) (countsAfterRest n x)
+module _ (y : Counters) (x : HistoryCounters) (k : CountersTrack y x) where
+  pub rest-counts : (n : ℕ) → CountersTrack (countersRested n y) (countersAfterRest n x)
   unfolding countersRested
   rest-counts n = let e = k .rests in record { rests = omega arith; cycles = k .cycles; drain = k .drain }
 
   pub window-counts : (l : ℕ) (c : ℤ) → magnitude c ≤ 65_535 → y .cycles .drain < mostDrain
-      → CountTracks (countersMoved l (currentOf c) y) (countsAfterWindow l c x)
+      → CountersTrack (countersMoved l (currentOf c) y) (countersAfterWindow l c x)
   unfolding countersMoved cyclesMoved cyctAfter
   window-counts l c small below =
       let d : drainWith (currentOf c) (y .cycles .drain) ≡ x .drain + discharged c =
@@ -93,8 +93,8 @@ module _ (y : Counters) (x : Counts) (k : CountTracks y x) where
           let l : x .rests < 422 = omega arith in
           rw (lt-ltb (x .rests) 422 l)
 
-pub command-counts : (command : Command) (y : Counters) (x : History) → CountTracks y (x .counts)
-    → CountTracks (countersObeyed command y) ((afterCommand command x) .counts)
+pub command-counts : (command : Command) (y : Counters) (x : History) → CountersTrack y (x .counters)
+    → CountersTrack (countersObeyed command y) ((afterCommand command x) .counters)
 unfolding countersObeyed openedCounters noCycles afterCommand startedHistory
 command-counts (Setting setting) y x k = k
 command-counts (Reset Prst) y x k = record { rests = refl; cycles = k .cycles; drain = k .drain }

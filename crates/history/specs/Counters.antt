@@ -8,7 +8,7 @@ use lib.IntN.{ℤ, pos, negsuc}
 use Rattle.numbers.specs.Signed.{magnitude}
 use Rattle.history.specs.Sums.{grainsACount, grainsAUnit}
 
-pub record Counts : Type 0 where
+pub record HistoryCounters : Type 0 where
   -- "rest windows since"
   pub rests : ℕ
   -- cycles "for every whole LMD × G"
@@ -17,8 +17,8 @@ pub record Counts : Type 0 where
   pub drain : ℕ
 
 -- "since opening or a reset"; FRST "clears both"
-abbrev pub noCounts : Counts
-noCounts = record { rests = 0; cycles = 0; drain = 0 }
+abbrev pub noCounters : HistoryCounters
+noCounters = record { rests = 0; cycles = 0; drain = 0 }
 
 -- "its counted discharge", grains: nothing of it is lost below empty, and a leak is none
 abbrev pub discharged : ℤ → ℕ
@@ -27,8 +27,8 @@ discharged (negsuc n) = grainsAUnit * suc n
 
 -- "since the last window with c not 0"; "each window call .. adds its counted discharge to a drain, and one more cycle for every whole LMD × G in
 -- it", L being that before the window
-abbrev pub countsAfterWindow : ℕ → ℤ → Counts → Counts
-countsAfterWindow l c x =
+abbrev pub countersAfterWindow : ℕ → ℤ → HistoryCounters → HistoryCounters
+countersAfterWindow l c x =
     record {
       rests = cond (eqb (magnitude c) 0) (x .rests) 0;
       cycles = x .cycles + (x .drain + discharged c) / (l * grainsACount);
@@ -36,17 +36,17 @@ countsAfterWindow l c x =
     }
 
 -- "no rest" adds to the drain
-abbrev pub countsAfterRest : ℕ → Counts → Counts
-countsAfterRest n x = record { rests = x .rests + n; cycles = x .cycles; drain = x .drain }
+abbrev pub countersAfterRest : ℕ → HistoryCounters → HistoryCounters
+countersAfterRest n x = record { rests = x .rests + n; cycles = x .cycles; drain = x .drain }
 
 -- "PRST keeps both", the cycles and the drain
-abbrev pub countsAfterPrst : Counts → Counts
-countsAfterPrst x = record { rests = 0; cycles = x .cycles; drain = x .drain }
+abbrev pub countersAfterPrst : HistoryCounters → HistoryCounters
+countersAfterPrst x = record { rests = 0; cycles = x .cycles; drain = x .drain }
 
 -- "stops at 4,294,967,295"
-abbrev pub restCount : Counts → ℕ
+abbrev pub restCount : HistoryCounters → ℕ
 restCount x = min (x .rests) 4_294_967_295
 
 -- "CYCT stops at 65,535"
-abbrev pub cycleCount : Counts → ℕ
+abbrev pub cycleCount : HistoryCounters → ℕ
 cycleCount x = min (x .cycles) 65_535
