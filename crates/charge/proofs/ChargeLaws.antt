@@ -16,8 +16,8 @@ use Rattle.charge.specs.declared.charge.Charge.{Charge}
 abbrev pub chargeWith : ℕ → ℕ → Run → Charge
 chargeWith held lmd run = record { held = held; lmd = lmd; run = run }
 
-pub charge-is : {h i l m : ℕ} {r s : Run} → h ≡ i → l ≡ m → r ≡ s → chargeWith h l r ≡ chargeWith i m s
-charge-is p q e = cc
+pub charge-alike : {h i l m : ℕ} {r s : Run} → h ≡ i → l ≡ m → r ≡ s → chargeWith h l r ≡ chargeWith i m s
+charge-alike p q e = cc
 
 -- where a sum is at or below what is drawn, the difference is 0
 pub stop-is-difference : (p : Bool) (a b : ℕ) → a - b ≡ cond (p && leb a b) 0 (a - b)

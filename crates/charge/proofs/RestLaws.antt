@@ -14,7 +14,7 @@ use Rattle.charge.specs.Charge.{leaked}
 use Rattle.charge.specs.Rest.{restedOnce, rested}
 use Rattle.charge.specs.Step.{SameNac, leakedAtOnce}
 use Rattle.charge.specs.declared.charge.Charge.{Charge}
-use Rattle.charge.proofs.ChargeLaws.{charge-is, chargeWith}
+use Rattle.charge.proofs.ChargeLaws.{charge-alike, chargeWith}
 
 -- ---- the run
 
@@ -85,14 +85,14 @@ rested-whole (suc n) rate x =
     let l = leak (x .held) rate in
     let r = restLeak (suc n) rate (x .held - l) in
     let e : x .held - l - r ≡ x .held - (l + r) = omega arith in
-    rested-whole n rate (restedOnce rate x) ∙ charge-is e refl (drained-twice (x .run) l r)
+    rested-whole n rate (restedOnce rate x) ∙ charge-alike e refl (drained-twice (x .run) l r)
 
 -- what each callee gives, in their order
 pub rested-is : {l : ℕ} {r s : Run} (n rate : ℕ) (x : Charge) → 0 < n → l ≡ restLeak n rate (x .held) → r ≡ drained (x .run) l → s ≡ unlessPassed r
     → chargeWith (x .held - l) (x .lmd) s ≡ rested n rate x
 unfolding leakedAtOnce
 rested-is (suc n) rate x some el er es =
-    charge-is refl refl (es ∙ ap unlessPassed er) ∙ ap (λ (l : ℕ). leakedAtOnce l x) el ∙ sym (rested-whole n rate x)
+    charge-alike refl refl (es ∙ ap unlessPassed er) ∙ ap (λ (l : ℕ). leakedAtOnce l x) el ∙ sym (rested-whole n rate x)
 
 pub same-nac : SameNac
 same-nac n rate x h =

@@ -12,6 +12,9 @@ use Rattle.counters.specs.declared.cycles.Cycles.{Cycles}
 abbrev pub countersOf : ℕ → Cycles → Counters
 countersOf rests cycles = record { rests = rests; cycles = cycles }
 
+pub counters-alike : {m n : ℕ} {x y : Cycles} → m ≡ n → x ≡ y → countersOf m x ≡ countersOf n y
+counters-alike p q = cc
+
 -- ---- each way of the functions
 
 module _ (n : ℕ) (x : Counters) where

@@ -1,3 +1,4 @@
 pub mod LeakLaws
 pub mod RestLaws
+pub mod RunLaws
 pub mod StepLaws

@@ -14,8 +14,8 @@ use Rattle.host.specs.declared.host.Host.{Host}
 abbrev pub hostWith : ℕ → ℕ → Host
 hostWith mode ar = record { mode = mode; ar = ar }
 
-pub host-is : {m n a b : ℕ} → m ≡ n → a ≡ b → hostWith m a ≡ hostWith n b
-host-is p q = cc
+pub host-alike : {m n a b : ℕ} → m ≡ n → a ≡ b → hostWith m a ≡ hostWith n b
+host-alike p q = cc
 
 -- ---- the code's arithmetic
 

@@ -1,5 +1,4 @@
--- Parts of a gauge that agree, what bytes of the newest form are read as, and the tests that bytes of a form pass, in their order: told of plain bytes.
--- Assumes nothing.
+-- What bytes of the newest form are read as, and the tests that bytes of a form pass, in their order: stated of plain bytes. Assumes nothing.
 use mathlib.Core.Bool.{Bool, true, false, _&&_, cond}
 use mathlib.Core.List.{List, []}
 use mathlib.Core.Path.{_≡_, refl, sym, ap, _∙_}
@@ -8,46 +7,18 @@ use native.Mathlib.Omega.{arith}
 use lib.Dec.{eqb}
 use lib.ListN.{getD, length, replicate}
 use borrow.Author.Tests.{eq-eqb, eqb-true, ne-eqb}
-use Rattle.charge.specs.declared.charge.Charge.{Charge}
 use Rattle.flags.specs.Byte.{flagsFit}
 use Rattle.form.specs.Form.{Current, Flags, Form, FormNumber, lengthOf, newest, numberOf, ofNumber, placeOf, savedLength}
 use Rattle.form.specs.Signed.{currentOf}
-use Rattle.counters.proofs.CountersLaws.{countersOf}
-use Rattle.counters.proofs.CyclesLaws.{cyclesOf}
 use Rattle.gauge.specs.Accepted.{accepted}
 use Rattle.gauge.specs.Opening.{openAnswer, openRefusal}
 use Rattle.gauge.specs.declared.answer.Answer.{Answer}
 use Rattle.gauge.specs.declared.state.Gauge.{Gauge}
-use Rattle.host.specs.declared.host.Host.{Host}
 use Rattle.numbers.proofs.BoolLaws.{and-left, and-right}
 use Rattle.numbers.proofs.LittleLaws.{one-is}
 use Rattle.refusals.specs.Refusal as Refusal
 use Rattle.sample.specs.declared.current.Current as Amount
-use Rattle.sample.specs.declared.sample.Sample.{Sample}
 use Rattle.load.specs.Load.{acceptedAnswer, answerIn, carriedStandby, decodedGauge, fitsAs, formFits, loaded, ofLength, readIn, rejectedAnswer}
-
--- ---- parts that agree
-
-abbrev pub chargeOf : ℕ → ℕ → Bool → ℕ → Charge
-chargeOf held lmd vdq dcr = record { held = held; lmd = lmd; run = record { vdq = vdq; dcr = dcr } }
-
-pub charge-alike : {h k l m d e : ℕ} {v w : Bool} → h ≡ k → l ≡ m → v ≡ w → d ≡ e → chargeOf h l v d ≡ chargeOf k m w e
-charge-alike p q r s = cc
-
-abbrev pub sampleOf : Amount.Current → ℕ → ℕ → Sample
-sampleOf current voltage temperature = record { current = current; voltage = voltage; temperature = temperature }
-
-pub sample-alike : {i j : Amount.Current} {v w t u : ℕ} → i ≡ j → v ≡ w → t ≡ u → sampleOf i v t ≡ sampleOf j w u
-sample-alike p q r = cc
-
-abbrev pub hostOf : ℕ → ℕ → Host
-hostOf mode ar = record { mode = mode; ar = ar }
-
-pub host-alike : {m n a b : ℕ} → m ≡ n → a ≡ b → hostOf m a ≡ hostOf n b
-host-alike p q = cc
-
-pub counters-alike : {m n k l d e : ℕ} → m ≡ n → k ≡ l → d ≡ e → countersOf m (cyclesOf k d) ≡ countersOf n (cyclesOf l e)
-counters-alike p q r = cc
 
 -- a number of one byte, read as a byte
 pub byte-is : {b x : ℕ} → b ≡ x → b ≡ x + 256 * 0

@@ -9,6 +9,7 @@ use native.Mathlib.Omega.{arith}
 use lib.Dec.{T}
 use lib.ListN.{getD, length}
 use Rattle.configuration.specs.Configuration.{dmf}
+use Rattle.charge.proofs.ChargeLaws.{charge-alike}
 use Rattle.flags.specs.Byte.{flagsFit}
 use Rattle.flags.proofs.FlagsByteLaws.{byte-back, byte-fits, flags-back, vdq-back}
 use Rattle.form.specs.Form.{Bytes, Current, Field, Flags, FormNumber, Name, Number, bytesOf, fieldOf, laidOut, lengthOf, newest, numberOf, ofBytes, ofNumber}
@@ -20,13 +21,15 @@ use Rattle.form.proofs.SignedLaws.{current-back, pair-back, pair-fits}
 use Rattle.gauge.specs.Fits.{Fits}
 use Rattle.gauge.specs.declared.state.Gauge.{Gauge}
 use Rattle.gauge.proofs.GaugeLaws.{gauge-alike}
+use Rattle.grains.proofs.RunLaws.{run-alike}
 use Rattle.load.specs.Fields.{bytesIn, chargeFrom, countersFrom, flagsOfGauge, gaugeFrom, hostFrom, numberIn, sampleFrom}
 use Rattle.load.specs.Load.{formFits, readIn}
-use Rattle.load.proofs.LoadLaws.{charge-alike, form-first, form-flags, form-length, sample-alike}
+use Rattle.load.proofs.LoadLaws.{form-first, form-flags, form-length}
 use Rattle.numbers.proofs.BytesLaws.{bytes-length, bytes-split, number-is}
 use Rattle.numbers.proofs.LittleLaws.{number-fits, read-back, valueOf, whole, write-back}
 use Rattle.numbers.specs.Little.{bytesAt, little}
 use Rattle.sample.specs.Sample.{currentAccepted}
+use Rattle.sample.proofs.SampleLaws.{sample-alike}
 use Rattle.saved.specs.Save.{fieldBytes, savedBytes}
 use Rattle.saved.proofs.FormLaws.{field-length}
 
@@ -114,7 +117,7 @@ module _ (g : Gauge) where
       gauge-back =
           let chgs = g .sample .current .charging in
           let vdq = g .charge .run .vdq in
-          gauge-alike refl (charge-alike refl refl (vdq-back chgs vdq (g .flags)) refl)
+          gauge-alike refl (charge-alike refl refl (run-alike (vdq-back chgs vdq (g .flags)) refl))
           (sample-alike (current-back (dmf (g .settings)) (g .sample .current) a) refl refl) refl (flags-back chgs vdq (g .flags)) refl refl
 
       -- reading what was saved gives the same gauge

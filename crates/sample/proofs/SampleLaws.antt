@@ -12,6 +12,9 @@ use Rattle.sample.specs.declared.sample.Sample.{Sample}
 abbrev sampleOf : Current → ℕ → ℕ → Sample
 sampleOf i v t = record { current = i; voltage = v; temperature = t }
 
+pub sample-alike : {i j : Current} {v w t u : ℕ} → i ≡ j → v ≡ w → t ≡ u → sampleOf i v t ≡ sampleOf j w u
+sample-alike p q r = cc
+
 pub none-is : {i : Current} → i ≡ noCurrent → sampleOf i 0 0 ≡ noSample
 unfolding noSample
 none-is e = ap (λ (i : Current). sampleOf i 0 0) e

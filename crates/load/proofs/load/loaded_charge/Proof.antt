@@ -2,7 +2,9 @@
 use mathlib.Core.Path.{ap, _∙_}
 use Rattle.flags.specs.Byte.{vdqOf}
 use Rattle.load.specs.Fields.{chargeFrom}
-use Rattle.load.proofs.LoadLaws.{byte-is, charge-alike}
+use Rattle.charge.proofs.ChargeLaws.{charge-alike}
+use Rattle.grains.proofs.RunLaws.{run-alike}
+use Rattle.load.proofs.LoadLaws.{byte-is}
 use borrow.Author.Needs.{needs}
 use Rattle.load.proofs.load.loaded_charge.Statement.{statement}
 use Rattle.load.proofs.load.loaded_charge.Tie as tie
@@ -32,7 +34,8 @@ returns c =
     let p2 = p1 .before in
     let p3 = p2 .before in
     let p4 = p3 .before in
-    charge-alike (p4 .eight-at .ensures) (p2 .two-at .ensures) (c .vdq-of .ensures ∙ ap vdqOf (byte-is (p1 .byte-at .ensures))) (p3 .eight-at2 .ensures)
+    charge-alike (p4 .eight-at .ensures) (p2 .two-at .ensures)
+    (run-alike (c .vdq-of .ensures ∙ ap vdqOf (byte-is (p1 .byte-at .ensures))) (p3 .eight-at2 .ensures))
 
 pub loaded-charge-spec : {M : Type 1} → statement M
 loaded-charge-spec =

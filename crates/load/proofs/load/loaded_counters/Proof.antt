@@ -1,6 +1,7 @@
 -- The fields that are read. Assumes nothing.
 use Rattle.load.specs.Fields.{countersFrom}
-use Rattle.load.proofs.LoadLaws.{counters-alike}
+use Rattle.counters.proofs.CountersLaws.{counters-alike}
+use Rattle.counters.proofs.CyclesLaws.{cycles-alike}
 use borrow.Author.Needs.{needs}
 use Rattle.load.proofs.load.loaded_counters.Statement.{statement}
 use Rattle.load.proofs.load.loaded_counters.Tie as tie
@@ -19,7 +20,7 @@ unfolding countersFrom
 returns c =
     let p = c .before in
     let q = p .before in
-    counters-alike (q .four-at .ensures) (p .two-at .ensures) (c .eight-at .ensures)
+    counters-alike (q .four-at .ensures) (cycles-alike (p .two-at .ensures) (c .eight-at .ensures))
 
 pub loaded-counters-spec : {M : Type 1} → statement M
 loaded-counters-spec = tie.close (tie.spec four-at-requires two-at-requires eight-at-requires returns)

@@ -1,6 +1,7 @@
 -- The fields that are read. Assumes nothing.
 use Rattle.load.specs.Fields.{hostFrom}
-use Rattle.load.proofs.LoadLaws.{byte-is, host-alike}
+use Rattle.load.proofs.LoadLaws.{byte-is}
+use Rattle.host.proofs.HostLaws.{host-alike}
 use borrow.Author.Needs.{needs}
 use Rattle.load.proofs.load.loaded_host.Statement.{statement}
 use Rattle.load.proofs.load.loaded_host.Tie as tie

@@ -2,7 +2,7 @@
 use mathlib.Core.Path.{ap, _∙_}
 use Rattle.form.specs.Signed.{currentOf}
 use Rattle.load.specs.Fields.{sampleFrom}
-use Rattle.load.proofs.LoadLaws.{sample-alike}
+use Rattle.sample.proofs.SampleLaws.{sample-alike}
 use borrow.Author.Needs.{needs}
 use Rattle.load.proofs.load.loaded_sample.Statement.{statement}
 use Rattle.load.proofs.load.loaded_sample.Tie as tie

@@ -3,7 +3,7 @@ use mathlib.Core.Path.{refl, ap, _∙_}
 use Prim.Native.Nat.{ℕ}
 use Rattle.grains.specs.Grains.{grainsOfCurrent}
 use Rattle.charge.specs.Charge.{moved, runMoved}
-use Rattle.charge.proofs.ChargeLaws.{charge-is}
+use Rattle.charge.proofs.ChargeLaws.{charge-alike}
 use borrow.Author.Needs.{needs}
 use Rattle.charge.proofs.charge.Charge.moved.Statement.{statement}
 use Rattle.charge.proofs.charge.Charge.moved.Tie as tie
@@ -26,7 +26,7 @@ returns c =
     let p = c .before in
     let a = p .before .before .before .before .args in
     let d = p .before .grains-of-current .ensures ∙ ap grainsOfCurrent (p .before .before .discharge-current .ensures) in
-    charge-is (c .held-moved .ensures) refl
+    charge-alike (c .held-moved .ensures) refl
     (p .run-moved .ensures ∙ ap (λ (n : ℕ). runMoved (a .current .charging) n (a .self .run)) d)
 
 pub moved-spec : {M : Type 1} → statement M

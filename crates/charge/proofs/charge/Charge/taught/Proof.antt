@@ -3,7 +3,7 @@ use mathlib.Core.Path.{ap, _∙_}
 use Prim.Native.Nat.{ℕ, _/_}
 use Rattle.grains.specs.Grains.{grainsOfCounts}
 use Rattle.charge.specs.Charge.{taught}
-use Rattle.charge.proofs.ChargeLaws.{charge-is}
+use Rattle.charge.proofs.ChargeLaws.{charge-alike}
 use borrow.Author.Needs.{needs}
 use Rattle.charge.proofs.charge.Charge.taught.Statement.{statement}
 use Rattle.charge.proofs.charge.Charge.taught.Tie as tie
@@ -22,7 +22,7 @@ unfolding taught
 returns c =
     let p = c .before in
     let l = p .before .learned .ensures in
-    charge-is (p .grains-of-counts .ensures ∙ ap (λ (n : ℕ). grainsOfCounts (n / 16)) l) l (c .none .ensures)
+    charge-alike (p .grains-of-counts .ensures ∙ ap (λ (n : ℕ). grainsOfCounts (n / 16)) l) l (c .none .ensures)
 
 pub taught-spec : {M : Type 1} → statement M
 taught-spec = tie.close (tie.spec learned-requires grains-of-counts-requires none-requires returns)

@@ -2,7 +2,7 @@
 use mathlib.Core.Path.{refl, ap, _∙_}
 use Prim.Native.Nat.{min}
 use Rattle.charge.specs.Obeyed.{writtenLmd}
-use Rattle.charge.proofs.ChargeLaws.{charge-is}
+use Rattle.charge.proofs.ChargeLaws.{charge-alike}
 use borrow.Author.Needs.{needs}
 use Rattle.charge.proofs.charge.Charge.written_lmd.Statement.{statement}
 use Rattle.charge.proofs.charge.Charge.written_lmd.Tie as tie
@@ -21,7 +21,7 @@ unfolding writtenLmd
 returns c =
     let p = c .before in
     let x = p .before .before .args .self in
-    charge-is (p .lesser .ensures ∙ ap (min (x .held)) (p .before .grains-of-counts .ensures)) refl (c .none .ensures)
+    charge-alike (p .lesser .ensures ∙ ap (min (x .held)) (p .before .grains-of-counts .ensures)) refl (c .none .ensures)
 
 pub written-lmd-spec : {M : Type 1} → statement M
 written-lmd-spec =

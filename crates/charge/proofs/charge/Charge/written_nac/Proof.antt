@@ -3,7 +3,7 @@ use mathlib.Core.Path.{refl, ap, _∙_}
 use Prim.Native.Nat.{ℕ, min}
 use Rattle.grains.specs.Grains.{grainsOfCounts}
 use Rattle.charge.specs.Obeyed.{writtenNac}
-use Rattle.charge.proofs.ChargeLaws.{charge-is}
+use Rattle.charge.proofs.ChargeLaws.{charge-alike}
 use borrow.Author.Needs.{needs}
 use Rattle.charge.proofs.charge.Charge.written_nac.Statement.{statement}
 use Rattle.charge.proofs.charge.Charge.written_nac.Tie as tie
@@ -26,7 +26,7 @@ returns c =
     let p = c .before in
     let q = p .before in
     let a = q .before .before .args in
-    charge-is
+    charge-alike
     (c .lesser .ensures ∙ ap (λ (n : ℕ). min n (p .grains-of-counts2 .result)) (q .grains-of-counts .ensures)
     ∙ ap (min (grainsOfCounts (a .ar))) (p .grains-of-counts2 .ensures))
     refl (q .before .none .ensures)

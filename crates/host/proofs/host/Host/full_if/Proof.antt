@@ -1,7 +1,7 @@
 -- Each way returns the case that its test picks. Assumes nothing.
 use mathlib.Core.Path.{refl}
 use Rattle.host.specs.Host.{fullIf}
-use Rattle.host.proofs.HostLaws.{host-is}
+use Rattle.host.proofs.HostLaws.{host-alike}
 use borrow.Author.Needs.{needs}
 use Rattle.host.proofs.host.Host.full_if.Statement.{statement}
 use Rattle.host.proofs.host.Host.full_if.Tie as tie
@@ -11,7 +11,7 @@ init-cleared-requires c κs = search needs
 
 returns : tie.Need-returns
 unfolding fullIf
-returns c = simp (c .before .if1 .taken) (host-is (c .init-cleared .ensures) refl)
+returns c = simp (c .before .if1 .taken) (host-alike (c .init-cleared .ensures) refl)
 
 returns-2 : tie.Need-returns-2
 unfolding fullIf

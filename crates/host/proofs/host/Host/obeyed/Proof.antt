@@ -2,7 +2,7 @@
 use mathlib.Core.Path.{ap, _∙_}
 use Rattle.host.specs.Host.{commandsCleared, hostObeyed}
 use Rattle.host.specs.declared.host.Host.{Host}
-use Rattle.host.proofs.HostLaws.{host-is}
+use Rattle.host.proofs.HostLaws.{host-alike}
 use borrow.Author.Needs.{needs}
 use Rattle.host.proofs.host.Host.obeyed.Statement.{statement}
 use Rattle.host.proofs.host.Host.obeyed.Tie as tie
@@ -17,7 +17,7 @@ returns : tie.Need-returns
 unfolding hostObeyed
 returns c =
     let e = c .before .commanded .ensures in
-    host-is (c .commands-cleared .ensures ∙ ap (λ (x : Host). commandsCleared (x .mode)) e) (ap (λ (x : Host). x .ar) e)
+    host-alike (c .commands-cleared .ensures ∙ ap (λ (x : Host). commandsCleared (x .mode)) e) (ap (λ (x : Host). x .ar) e)
 
 pub obeyed-spec : {M : Type 1} → statement M
 obeyed-spec = tie.close (tie.spec commanded-requires commands-cleared-requires returns)

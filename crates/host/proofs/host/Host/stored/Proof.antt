@@ -5,7 +5,7 @@ use native.Mathlib.Omega.{arith}
 use borrow.Author.Tests.{eq-eqb, ne-eqb}
 use Rattle.numbers.specs.Little.{byteAt}
 use Rattle.host.specs.Host.{stored}
-use Rattle.host.proofs.HostLaws.{host-is}
+use Rattle.host.proofs.HostLaws.{host-alike}
 use borrow.Author.Needs.{needs}
 use Rattle.host.proofs.host.Host.stored.Statement.{statement}
 use Rattle.host.proofs.host.Host.stored.Tie as tie
@@ -27,7 +27,7 @@ returns-2 c =
     let a = p .before .before .args in
     let h : a .self .ar / 256 ≡ byteAt (a .self .ar) 1 = omega arith in
     simp (ne-eqb _ _ (p .before .if1 .left), eq-eqb _ _ (p .if2 .taken))
-    (host-is refl (c .pair-of .ensures ∙ ap (λ (n : ℕ). a .value + 256 * n) h))
+    (host-alike refl (c .pair-of .ensures ∙ ap (λ (n : ℕ). a .value + 256 * n) h))
 
 cast-pair-of-2 : tie.Need-cast-pair-of-2
 cast-pair-of-2 c = search needs
@@ -42,7 +42,7 @@ returns-3 c =
     let a = p .before .before .args in
     let h : a .self .ar % 256 ≡ byteAt (a .self .ar) 0 = omega arith in
     simp (ne-eqb _ _ (p .before .if1 .left), ne-eqb _ _ (p .if2 .left))
-    (host-is refl (c .pair-of2 .ensures ∙ ap (λ (n : ℕ). n + 256 * a .value) h))
+    (host-alike refl (c .pair-of2 .ensures ∙ ap (λ (n : ℕ). n + 256 * a .value) h))
 
 pub stored-spec : {M : Type 1} → statement M
 stored-spec =
