@@ -1,6 +1,5 @@
 -- A gauge that calls take, by its parts and from them: what acceptance asks bounds the widths of SI and of the sample. Assumes nothing.
-use mathlib.Core.Path.{_≡_}
-use Prim.Native.Nat.{ℕ, _*_}
+use Prim.Native.Nat.{_*_}
 use native.Mathlib.Omega.{arith}
 use borrow.Author.Tests.{leb-true}
 use Rattle.charge.specs.Fits.{ChargeFits}

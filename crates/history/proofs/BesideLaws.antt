@@ -1,7 +1,6 @@
 -- Each call keeps what holds of a gauge and its history: the gauge is accepted, the settings are the same, the history's charge, capacity
 -- and run are the gauge's, its counts stop at the gauge's, and MODE and AR decide alike. Assumes nothing.
 use mathlib.Core.Bool.{Bool, true, false, cond}
-use mathlib.Core.List.{List}
 use mathlib.Core.Path.{_≡_, refl, sym, ap, _∙_, subst, subst₂}
 use Prim.Native.Nat.{ℕ, _≤_}
 use lib.Dec.{eqb, leb}

@@ -1,7 +1,6 @@
 -- A command moves the gauge's charge, MODE and AR and the history's alike. The two MODEs agree in the command bits alone: full and DONE
 -- clear INIT in the gauge, and the history keeps it. Assumes nothing.
 use mathlib.Core.Bool.{Bool, true, false, cond}
-use mathlib.Core.List.{List}
 use mathlib.Core.Path.{_≡_, refl, sym, ap, _∙_}
 use Prim.Native.Nat.{ℕ, _+_, _*_, _/_, _%_, _<_, min}
 use native.Mathlib.Omega.{arith}

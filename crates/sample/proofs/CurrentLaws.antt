@@ -1,7 +1,7 @@
 -- Of the two parts of a counted current the one against its direction is 0, and neither is above its magnitude. Assumes nothing.
 use mathlib.Core.Bool.{Bool, true, false, cond}
 use mathlib.Core.Path.{_≡_}
-use Prim.Native.Nat.{ℕ, _≤_}
+use Prim.Native.Nat.{_≤_}
 use native.Mathlib.Omega.{arith}
 use Rattle.sample.specs.Current.{chargeCurrent}
 use Rattle.sample.specs.declared.current.Current.{Current}

@@ -1,5 +1,5 @@
 -- The parts of the opened settings, put together. Assumes nothing.
-use mathlib.Core.Path.{_≡_, ap, _∙_}
+use mathlib.Core.Path.{ap, _∙_}
 use Rattle.charge.specs.Charge.{openedCharge}
 use Rattle.configuration.specs.Terms.{termsOf}
 use Rattle.configuration.specs.declared.settings.Settings.{Settings}
