@@ -29,6 +29,15 @@ rest-leak-within (suc n) rate held low =
     let h = rest-leak-within n rate (held - leak held rate) low in
     omega arith
 
+-- where a window leaks nothing, none of those behind it does
+pub leaks-none : (n rate held : ℕ) → leak held rate ≡ 0 → restLeak n rate held ≡ 0
+unfolding restLeak
+leaks-none zero rate held z = omega arith
+leaks-none (suc n) rate held z =
+    let e : held - leak held rate ≡ held = omega arith in
+    let r = ap (restLeak n rate) e ∙ leaks-none n rate held z in
+    omega arith
+
 -- while no count is lost, the leak stays
 leak-same : (held rate : ℕ) → leak held rate ≤ grainsOver held → leak (held - leak held rate) rate ≡ leak held rate
 unfolding leak

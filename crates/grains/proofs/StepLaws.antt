@@ -1,145 +1,169 @@
--- A rest, step by step: how many windows a step takes, what it leaves to the others, and that it loses a count unless they are all that are left. Assumes
--- nothing.
-use mathlib.Core.Bool.{Bool, true, false, cond}
-use mathlib.Core.Path.{_≡_, refl, ap, _∙_}
-use Prim.Native.Nat.{ℕ, suc, _+_, _-_, _*_, _/_, _≤_, _<_, min}
-use native.Mathlib.Nat.{div-eq-of-lt, div-mul-le-self, lt-div-mul-add, mul-le-mul-right, suc-mul}
+-- A rest in whole counts and the part of a count. A step takes the windows that start with the same NAC; what it leaves to the others, and that it loses
+-- a count unless it is the last. Assumes nothing.
+use mathlib.Core.Path.{_≡_, sym, ap, subst, _∙_}
+use Prim.Native.Nat.{ℕ, zero, suc, _+_, _-_, _*_, _/_, _%_, _≤_, _<_}
+use native.Mathlib.Nat.{div-add-mod', div-mul-le-self, mod-lt, mul-le-mul-right, suc-mul}
 use native.Mathlib.Omega.{arith}
-use lib.Dec.{eqb, ltb}
-use borrow.Author.Tests.{eqb-true, eqb-false, ltb-true, ltb-false, ne-eqb}
-use Rattle.grains.specs.Grains.{grainsPerCount, nac}
+use Rattle.numbers.proofs.ProductLaws.{product-within}
+use Rattle.grains.specs.Grains.{grainsPerCount, mostDrain, nac}
 use Rattle.grains.specs.Leak.{leak}
-use Rattle.grains.specs.Rest.{grainsOver, restLeak, stepWindows}
-use Rattle.grains.proofs.LeakLaws.{leak-within-counts}
-use Rattle.grains.proofs.RestLaws.{leaks-same}
+use Rattle.grains.specs.Rest.{grainsOver, restLeak}
+use Rattle.grains.proofs.RestLaws.{leaks-none, leaks-same}
 
--- ---- the windows of a step
+abbrev pub grainsOf : ℕ → ℕ → ℕ
+grainsOf counts part = counts * grainsPerCount + part
 
-pub record Step (held grains left k : ℕ) : Type 0 where
-  pub some : 0 < k
-  pub most : k ≤ left
-  -- the last of them starts within the count
-  pub same : (k - 1) * grains ≤ grainsOver held
-  -- unless they are all that are left, a count is lost
-  pub loses : k < left → grainsOver held < k * grains
+-- What is held, what a window leaks of it, and the windows left, which end at a number of grains
+pub record Resting (end rate counts part grains left : ℕ) : Type 0 where
+  pub low : rate ≤ 1_920
+  pub most : counts ≤ 65_535
+  pub within : part < grainsPerCount
+  pub leaks : grains ≡ counts * rate
+  pub ends : grainsOf counts part - restLeak left rate (grainsOf counts part) ≡ end
 
-module _ (held grains left : ℕ) (some : 0 < left) where
-  abbrev quotient : ℕ
-  quotient = grainsOver held / grains
+-- the counts still to be lost
+abbrev pub toLose : ℕ → ℕ → ℕ
+toLose end counts = counts - nac end
 
-  pub step : Step held grains left (stepWindows held grains left)
-  unfolding stepWindows
-  step = go (eqb grains 0) refl
-    where
-      go : (t : Bool) → eqb grains 0 ≡ t → Step held grains left (cond t left (min left (quotient + 1)))
-      go true e =
-          let z = eqb-true grains 0 e in
-          let p = some in
-          record {
-            some = p;
-            most = omega arith;
-            same = rw z (omega arith);
-            loses = λ h. absurd (omega arith);
-          }
-      go false e =
-          let z = eqb-false grains 0 e in
-          let p = some in
-          let a = div-mul-le-self (grainsOver held) grains in
-          let m : min left (quotient + 1) - 1 ≤ quotient = omega arith in
-          let b = mul-le-mul-right grains m in
-          record {
-            some = omega arith;
-            most = omega arith;
-            same = omega arith;
-            loses = λ h.
-                let k : min left (quotient + 1) ≡ suc quotient = omega arith in
-                rw (k, suc-mul quotient grains) (lt-div-mul-add {b = grains} (omega arith));
-          }
+pub begins : {counts part grains : ℕ} (held rate left : ℕ) → held ≤ mostDrain → rate ≤ 1_920 → counts ≡ nac held → part ≡ grainsOver held
+    → grains ≡ counts * rate → Resting (held - restLeak left rate held) rate counts part grains left
+begins held rate left fits low ec ep eg =
+    let e : grainsOf (nac held) (grainsOver held) ≡ held = omega arith in
+    record {
+      low = low;
+      most = omega arith;
+      within = omega arith;
+      leaks = eg;
+      ends = rw (ec, ep, e);
+    }
 
-  -- ---- found by tests in their order
+some-count : (counts rate : ℕ) → 0 < counts * rate → 0 < counts
+some-count zero rate h = omega arith
+some-count (suc n) rate h = omega arith
 
-  pub step-one : grainsOver held < grains → 1 ≡ stepWindows held grains left
-  unfolding stepWindows
-  step-one h =
-      let q = div-eq-of-lt h in
-      let p = some in
-      let z = ne-eqb grains 0 (λ e. omega arith) in
-      simp z (omega arith)
+module _ {end rate counts part grains left : ℕ} (r : Resting end rate counts part grains left) where
+  abbrev held : ℕ
+  held = grainsOf counts part
 
-  pub step-all : grains ≡ 0 → left ≡ stepWindows held grains left
-  unfolding stepWindows
-  step-all e = simp e
+  -- 65,535 × 1,920
+  pub leak-most : grains ≤ 125_829_120
+  leak-most =
+      let p = product-within 65_535 1_920 (r .most) (r .low) in
+      let e = r .leaks in
+      omega arith
 
-  module _ (leaks : grains ≡ 0 → ⊥) where
-    pub step-rest : left ≤ quotient → left ≡ stepWindows held grains left
-    unfolding stepWindows
-    step-rest h = simp (ne-eqb grains 0 leaks) (omega arith)
+  leak-is : leak held rate ≡ grains
+  unfolding leak
+  leak-is =
+      let w = r .within in
+      let e : nac held ≡ counts = omega arith in
+      ap (λ (n : ℕ). n * rate) e ∙ sym (r .leaks)
 
-    pub step-part : quotient < left → quotient + 1 ≡ stepWindows held grains left
-    unfolding stepWindows
-    step-part h = simp (ne-eqb grains 0 leaks) (omega arith)
+  same : (k n : ℕ) → k * grains ≤ part → restLeak (suc k + n) rate held ≡ suc k * grains + restLeak n rate (held - suc k * grains)
+  same k n h =
+      let w = r .within in
+      let o : k * grains ≤ grainsOver held = omega arith in
+      subst (λ (l : ℕ). k * l ≤ grainsOver held → restLeak (suc k + n) rate held ≡ suc k * l + restLeak n rate (held - suc k * l)) leak-is
+      (leaks-same k n rate held) o
 
--- ---- a step of the loop
+  -- ---- no window leaks
 
--- the counts still to be lost, and one while windows are left
-abbrev pub stepsAtMost : ℕ → ℕ → ℕ → ℕ
-stepsAtMost end held left = nac held - nac end + min left 1
+  pub none-lost : grains ≡ 0 → grainsOf counts part ≡ end
+  none-lost z =
+      let n = leaks-none left rate held (leak-is ∙ z) in
+      let e = r .ends in
+      omega arith
 
-module _ (held rate left k : ℕ) (s : Step held (leak held rate) left k) where
-  abbrev lost : ℕ
-  lost = k * leak held rate
+  -- ---- the last step
 
-  step-leaks : restLeak left rate held ≡ lost + restLeak (left - k) rate (held - lost)
-  step-leaks =
-      let p = s .some in
-      let q = s .most in
-      let e : left ≡ suc (k - 1) + (left - k) = omega arith in
-      let i : suc (k - 1) ≡ k = omega arith in
-      ap (λ (n : ℕ). restLeak n rate held) e ∙ leaks-same (k - 1) (left - k) rate held (s .same)
-      ∙ ap (λ (n : ℕ). n * leak held rate + restLeak (left - k) rate (held - n * leak held rate)) i
+  alike : (n : ℕ) → n * grains ≤ part → restLeak n rate held ≡ n * grains
+  unfolding restLeak
+  alike zero h = omega arith
+  alike (suc k) h =
+      let m = suc-mul k grains in
+      let e : suc k + 0 ≡ suc k = omega arith in
+      let s = same k 0 (omega arith) in
+      let t = ap (λ (n : ℕ). restLeak n rate held) e in
+      omega arith
 
-  module _ (low : rate ≤ grainsPerCount) where
-    step-within : lost ≤ held
-    step-within =
-        let p = s .some in
-        let o = s .same in
-        let e : k ≡ suc (k - 1) = omega arith in
-        let m = ap (λ (n : ℕ). n * leak held rate) e ∙ suc-mul (k - 1) (leak held rate) in
-        let l = leak-within-counts held rate low in
+  module _ (few : left ≤ part / grains) where
+    pub last-within : left * grains ≤ part
+    last-within =
+        let a = mul-le-mul-right grains few in
+        let b = div-mul-le-self part grains in
         omega arith
 
-    step-less : (end : ℕ) → end ≤ held - lost → stepsAtMost end (held - lost) (left - k) < stepsAtMost end held left
-    step-less end h = go (ltb k left) refl
-      where
-        go : (t : Bool) → ltb k left ≡ t → stepsAtMost end (held - lost) (left - k) < stepsAtMost end held left
-        go true e =
-            let a = s .loses (ltb-true k left e) in
-            let b = step-within in
-            let i = h in
-            omega arith
-        go false e =
-            let a = ltb-false k left e in
-            let p = s .some in
-            let q = s .most in
-            omega arith
+    pub last-ends : grainsOf counts (part - left * grains) ≡ end
+    last-ends =
+        let w = last-within in
+        let a = alike left w in
+        let e = r .ends in
+        omega arith
 
--- a step of k windows that lose l each; with the windows left it ends at a number of grains
-pub record Stepped (end held rate left l k : ℕ) : Type 0 where
-  pub most : k ≤ left
-  pub within : k * l ≤ held
-  pub ends : held - k * l - restLeak (left - k) rate (held - k * l) ≡ end
-  -- so a rest makes at most one step more than it loses counts
-  pub less : stepsAtMost end (held - k * l) (left - k) < stepsAtMost end held left
+  -- ---- a step that loses a count
 
-pub stepped : {l k : ℕ} (end held rate left : ℕ) → l ≡ leak held rate → k ≡ stepWindows held l left → 0 < left → rate ≤ grainsPerCount
-    → held - restLeak left rate held ≡ end → Stepped end held rate left l k
-stepped end held rate left el ek some low e =
-    let l = leak held rate in
-    let k = stepWindows held l left in
-    let s = step held l left some in
-    let r = step-leaks held rate left k s in
-    let i : held - k * l - restLeak (left - k) rate (held - k * l) ≡ end = omega arith in
-    let m : end ≤ held - k * l = omega arith in
-    let turn : Stepped end held rate left l k =
-    record { most = s .most; within = step-within held rate left k s low; ends = i; less = step-less held rate left k s low end m } in
-    rw (ek, el) turn
+  module _ (some : 0 < grains) where
+    pub counted : 0 < counts
+    counted =
+        let e = r .leaks in
+        some-count counts rate (omega arith)
+
+    less-a-count : counts * rate ≡ (counts - 1) * rate + rate
+    less-a-count =
+        let p = counted in
+        let e : counts ≡ suc (counts - 1) = omega arith in
+        ap (λ (n : ℕ). n * rate) e ∙ suc-mul (counts - 1) rate
+
+    pub rate-within : rate ≤ grains
+    rate-within =
+        let e = r .leaks in
+        let l = less-a-count in
+        omega arith
+
+    pub over-below : part % grains < grains
+    over-below = mod-lt part some
+
+    module _ (more : part / grains < left) where
+      abbrev next : ℕ
+      next = grainsOf (counts - 1) (part % grains + (grainsPerCount - grains))
+
+      next-is : next ≡ held - suc (part / grains) * grains
+      next-is =
+          let a = div-add-mod' part grains in
+          let m = suc-mul (part / grains) grains in
+          let b = over-below in
+          let l = leak-most in
+          let p = counted in
+          omega arith
+
+      next-ends : next - restLeak (left - (part / grains + 1)) rate next ≡ end
+      next-ends =
+          let q = part / grains in
+          let i : left ≡ suc q + (left - (q + 1)) = omega arith in
+          let s = ap (λ (n : ℕ). restLeak n rate held) i ∙ same q (left - (q + 1)) (div-mul-le-self part grains) in
+          let e = r .ends in
+          rw next-is (omega arith)
+
+      pub steps : Resting end rate (counts - 1) (part % grains + (grainsPerCount - grains)) (grains - rate) (left - (part / grains + 1))
+      steps =
+          let m = r .most in
+          let b = over-below in
+          let l = leak-most in
+          let e = r .leaks in
+          let f = less-a-count in
+          record {
+            low = r .low;
+            most = omega arith;
+            within = omega arith;
+            leaks = omega arith;
+            ends = next-ends;
+          }
+
+      -- so a rest makes at most one step more than it loses counts
+      pub loses : toLose end (counts - 1) < toLose end counts
+      loses =
+          let n = next-ends in
+          let b = over-below in
+          let l = leak-most in
+          let p = counted in
+          omega arith
