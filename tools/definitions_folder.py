@@ -43,7 +43,7 @@ def crates():
 
 def types_of(source):
     """The structs, enums and types of a file of code."""
-    return [m.group(0) for m in re.finditer(r"^(?:pub )?(?:struct|enum) \w+ \{.*?^\}\n|^(?:pub )?type [^\n]*;\n", source, re.S | re.M)]
+    return [m.group(0) for m in re.finditer(r"^(?:pub )?(?:struct|enum) \w+ \{.*?^\}\n|^pub type [^\n]*;\n", source, re.S | re.M)]
 
 
 def named_in(body, crate, source):
@@ -85,6 +85,7 @@ def laid(text):
     """A file of definitions in the one folder, where every definition computes."""
     text = re.sub(r"Rattle·(\w+)·specs\.specs\.(\S+)", renamed, text)
     text = re.sub(r"Rattle·((?!pinned·)\w+)\.specs\.(\S+)", renamed, text)
+    text = re.sub(r"^unfoldable pub use ", "pub use ", text, flags=re.M)
     return re.sub(r"^unfoldable ", "abbrev ", text, flags=re.M)
 
 

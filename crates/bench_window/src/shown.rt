@@ -3,9 +3,9 @@ ghost use mathlib.Core.Path.{_≡_};
 ghost use Rattle.bench_window.specs.Shown as Spec;
 use bench_output::output::Output;
 use gauge::state::Gauge;
+use looks::reading::read;
 use numbers::little::pair_of;
 use refusals::NONE;
-use registers::reading::read;
 
 // The six registers from 0x0A on: FLAGS, RSOC, NAC and LMD; or 14.
 pub fn registers_output(gauge: Gauge) -> Output

@@ -13,7 +13,9 @@ use Rattle.gauge.specs.Opening.{openRefusal, opened}
 use Rattle.gauge.specs.Fits.{Taken}
 use Rattle.gauge.specs.declared.answer.Answer.{Answer}
 use Rattle.gauge.specs.declared.state.Gauge.{Gauge}
-use Rattle.handset.specs.Calls.{callBytes, callNumber, lookNumber, openBytes, openNumber, restCall, windowCall, writeCall}
+use Rattle.handset.specs.Calls.{openBytes, openNumber, restCall, windowCall, writeCall}
+use Rattle.saved.specs.Call.{callBytes, callNumber}
+use Rattle.load.specs.Look.{lookNumber}
 use Rattle.history.specs.After.{after, gaugeAfter, numberOf}
 use Rattle.history.specs.Call as Call
 use Rattle.history.specs.Call.{Call}

@@ -7,7 +7,8 @@ use Rattle.estimate.specs.Estimate.{distanceAfter, distanceFrom, estimateAfter,
 use Rattle.gauge.specs.Fits.{Taken}
 use Rattle.gauge.specs.declared.state.Gauge.{Gauge}
 use Rattle.grains.specs.Grains.{nac}
-use Rattle.handset.specs.Calls.{estimateCounts, estimateDistance, estimateNumber, lookLeaves, lookNumber}
+use Rattle.handset.specs.Calls.{estimateCounts, estimateDistance, estimateNumber}
+use Rattle.load.specs.Look.{lookLeaves, lookNumber}
 use Rattle.history.specs.Claim.{Agrees}
 use Rattle.history.specs.Kept.{History}
 use Rattle.history.specs.Sums.{grainsACount}

@@ -9,11 +9,13 @@ use borrow.Author.Tests.{eqb-false, eqb-true}
 use Rattle.command.specs.Command.{commandOf, decide}
 use Rattle.form.specs.Form.{Ar, Mode, newest, numberOf}
 use Rattle.gauge.specs.declared.state.Gauge.{Gauge}
-use Rattle.handset.specs.Calls.{callBytes, callNumber, lookNumber, previewCommand, previewNumber, previewReply, readReply, writeCall}
-use Rattle.handset.proofs.PreviewLaws.{key-refused, previewed, reply-refused}
+use Rattle.handset.specs.Calls.{previewCommand, previewNumber, previewReply, readReply, writeCall}
+use Rattle.saved.specs.Call.{callBytes, callNumber}
+use Rattle.load.specs.Look.{lookNumber}
 use Rattle.load.specs.Fields.{gaugeFrom, hostFrom}
 use Rattle.load.specs.Load.{answerIn, decodedGauge, loaded, readIn}
 use Rattle.load.proofs.LoadLaws.{decoded-is, loads}
+use Rattle.looks.proofs.PreviewLaws.{key-refused, previewed, reply-refused, shown-again}
 use Rattle.preview.specs.Preview.{onCopy, previewRefusal, wholeReplyRefusal}
 use Rattle.refusals.specs.Refusal as Refusal
 use Rattle.refusals.specs.Refusal.{orElse}
@@ -53,9 +55,10 @@ module _ (saved : List ℕ) (small : (k : ℕ) → getD saved k 0 < 256) (key : 
       go : (t u : Bool) → eqb (callNumber saved (writeCall 0 key)) 0 ≡ t → eqb (length reply) registerCount ≡ u → Leaves before
       go true true p q =
           let w = eqb-true (callNumber saved (writeCall 0 key)) 0 p in
-          let a = previewed saved key reply before w small (eqb-true (length reply) registerCount q) refl refl refl refl refl in
+          let l = eqb-true (length reply) registerCount q in
+          let a = previewed saved key reply before w small refl l refl refl refl in
           let n : previewNumber saved key (length reply) ≡ Refusal.none = number-is saved key reply ∙ simp (p, q) in
-          (sym (a .1 .0) ∙ sym (simp n), sym (a .1 .1) ∙ decoded-command w ∙ sym (simp n))
+          (shown-again saved key reply before w small refl l ∙ sym (simp n), sym (a .1 .1) ∙ decoded-command w ∙ sym (simp n))
       go true false p q =
           let w = eqb-true (callNumber saved (writeCall 0 key)) 0 p in
           let a = reply-refused saved key reply before w (eqb-false (length reply) registerCount q) in

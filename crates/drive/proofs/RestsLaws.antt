@@ -12,7 +12,7 @@ use Rattle.form.specs.Form.{newest}
 use Rattle.sample.specs.Limits.{restInRange}
 use Rattle.gauge.specs.Fits.{Taken}
 use Rattle.gauge.specs.declared.state.Gauge.{Gauge}
-use Rattle.handset.specs.Calls.{callBytes, callNumber}
+use Rattle.saved.specs.Call.{callBytes, callNumber}
 use Rattle.history.specs.After.{after}
 use Rattle.history.specs.Call as Call
 use Rattle.history.specs.Call.{Call}

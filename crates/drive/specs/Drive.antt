@@ -1,7 +1,8 @@
 -- A list of calls from C on the saved bytes. Definitions only; assumes nothing.
 use mathlib.Core.List.{List, [], _∷_}
 use Prim.Native.Nat.{ℕ}
-use Rattle.handset.specs.Calls.{callBytes, callNumber, estimateNumber, previewNumber, readNumber, restCall, windowCall, writeCall}
+use Rattle.handset.specs.Calls.{estimateNumber, previewNumber, readNumber, restCall, windowCall, writeCall}
+use Rattle.saved.specs.Call.{callBytes, callNumber}
 use Rattle.history.specs.Call.{Call, estimate, preview, read, rest, window, write}
 
 -- the number that a call from C yields

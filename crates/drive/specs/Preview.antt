@@ -8,7 +8,8 @@ use lib.Dec.{eqb}
 use lib.ListN.{getD, length}
 use Rattle.command.specs.Command.{commandOf, decide}
 use Rattle.form.specs.Form.{Ar, Mode, newest, numberOf}
-use Rattle.handset.specs.Calls.{callBytes, callNumber, previewCommand, previewNumber, previewReply, readReply, writeCall}
+use Rattle.handset.specs.Calls.{previewCommand, previewNumber, previewReply, readReply, writeCall}
+use Rattle.saved.specs.Call.{callBytes, callNumber}
 use Rattle.preview.specs.Preview.{wholeReplyRefusal}
 use Rattle.refusals.specs.Refusal as Refusal
 use Rattle.refusals.specs.Refusal.{orElse}

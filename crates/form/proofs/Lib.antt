@@ -3,3 +3,4 @@ pub mod InNewestLaws
 pub mod LaidOutLaws
 pub mod NamesLaws
 pub mod SignedLaws
+pub mod StoredLaws

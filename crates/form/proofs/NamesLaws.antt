@@ -60,7 +60,7 @@ module _ (P : Name → Type 0) where
 
 -- a test that each of the fields passes
 module _ (test : Name → Bool) where
-  abbrev allPass : List Field → Bool
+  abbrev pub allPass : List Field → Bool
   allPass [] = true
   allPass (f ∷ fs) = test (f .name) && allPass fs
 
@@ -68,6 +68,10 @@ module _ (test : Name → Bool) where
   each-passes [] e = tt
   each-passes (f ∷ fs) e =
       (subst T (sym (and-left (test (f .name)) (allPass fs) e)) tt, each-passes fs (and-right (test (f .name)) (allPass fs) e))
+
+  pub each-true : (fs : List Field) → allPass fs ≡ true → Each (λ (n : Name). test n ≡ true) fs
+  each-true [] e = tt
+  each-true (f ∷ fs) e = (and-left (test (f .name)) (allPass fs) e, each-true fs (and-right (test (f .name)) (allPass fs) e))
 
 -- whether fields have a name
 abbrev pub has : Name → List Field → Bool

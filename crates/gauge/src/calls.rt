@@ -21,7 +21,7 @@ use sample::range::voltage;
 use sample::range::voltage_in_range;
 
 // "A rest may now last 506,250 windows, thirty days" (A6 of paper 02).
-const LONGEST_REST: u32 = 506_250;
+pub const LONGEST_REST: u32 = 506_250;
 
 // Where keys are written.
 pub const CTRL: u32 = 0x00;

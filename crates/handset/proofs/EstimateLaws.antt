@@ -2,8 +2,8 @@
 use Prim.Native.Nat.{ℕ}
 use lib.IntN.{ℤ}
 use Rattle.estimate.specs.Estimate.{distanceAfter, estimateAfter, estimateRefusal}
+use Rattle.load.proofs.LookLaws.{ForRejected}
 use Rattle.refusals.specs.Refusal as Refusal
-use Rattle.handset.proofs.LookLaws.{ForRejected}
 
 module _ (v : ℤ) where
   pub estimate-rejects : ForRejected (λ g. estimateRefusal g v) Refusal.rejected

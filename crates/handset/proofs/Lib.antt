@@ -1,8 +1,3 @@
 pub mod CallLaws
 pub mod EstimateLaws
-pub mod HostByteLaws
 pub mod KeepLaws
-pub mod LookLaws
-pub mod PreviewLaws
-pub mod ReadLaws
-pub mod StoreLaws

@@ -9,28 +9,21 @@ use lib.IntN.{ℤ}
 use lib.ListN.{length}
 use Rattle.estimate.specs.Estimate.{distanceAfter, estimateAfter, estimateRefusal}
 use Rattle.every_form.specs.EveryForm.{loadAnswer}
-use Rattle.form.specs.Form.{newest}
 use Rattle.gauge.specs.Calls.{restAnswer, windowAnswer, writeAnswer}
 use Rattle.gauge.specs.Opening.{openRefusal, opened}
 use Rattle.gauge.specs.declared.answer.Answer.{Answer}
 use Rattle.gauge.specs.declared.state.Gauge.{Gauge}
-use Rattle.load.specs.Load.{answerIn}
+unfoldable pub use Rattle.load.specs.Look.{lookLeaves, lookNumber}
 use Rattle.preview.specs.Preview as Preview
 use Rattle.preview.specs.Preview.{commandAfter, previewRefusal}
 use Rattle.refusals.specs.Refusal as Refusal
 use Rattle.refusals.specs.Refusal.{orElse}
 use Rattle.registers.specs.Reading as Reading
 use Rattle.registers.specs.Reading.{readRefusal}
+unfoldable pub use Rattle.saved.specs.Call.{callBytes, callNumber}
 use Rattle.saved.specs.Save.{lengthRefusal, savedBytes}
 
 -- ---- a call that moves the gauge: "On success window and write leave the new gauge saved in the same bytes."
-
--- 14, "tested first", then the call's own number
-unfoldable pub callNumber : List ℕ → (Gauge → Answer) → ℕ
-callNumber saved call = orElse ((answerIn newest saved) .number) ((call ((answerIn newest saved) .gauge)) .number)
-
-unfoldable pub callBytes : List ℕ → (Gauge → Answer) → List ℕ
-callBytes saved call = cond (eqb (callNumber saved call) Refusal.none) (savedBytes ((call ((answerIn newest saved) .gauge)) .gauge)) saved
 
 abbrev pub windowCall : ℤ → ℤ → ℤ → Gauge → Answer
 windowCall a v t g = windowAnswer g a v t
@@ -58,14 +51,6 @@ unfoldable pub convertBytes : List ℕ → List ℕ → List ℕ
 convertBytes old saved = cond (eqb (convertNumber old (length saved)) Refusal.none) (savedBytes ((loadAnswer old) .gauge)) saved
 
 -- ---- a call that looks at the gauge and leaves the saved bytes
-
--- 14, "tested first", then the call's own number
-unfoldable pub lookNumber : List ℕ → (Gauge → ℕ) → ℕ
-lookNumber saved number = orElse ((answerIn newest saved) .number) (number ((answerIn newest saved) .gauge))
-
--- what a lent reply or number holds afterwards
-unfoldable pub lookLeaves : {A : Type 0} → List ℕ → (Gauge → A) → A → A
-lookLeaves saved after before = cond (eqb ((answerIn newest saved) .number) Refusal.none) (after ((answerIn newest saved) .gauge)) before
 
 -- a read: 14, 12, 13
 

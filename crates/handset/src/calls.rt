@@ -1,32 +1,20 @@
-// The calls from C, whose prototypes are in include/gauge.h: a slice is a pointer and a length there, a lent number a pointer. Each loads the
-// saved bytes, makes the proved call and saves; 14 is tested first, success is 0, and a refusal changes no byte of any buffer. Bytes in the form
-// hold a gauge value, and the proved call answers 14 where it is rejected, so acceptance is tested once.
+// The calls from C, whose prototypes are in include/gauge.h: a slice is a pointer and a length there, a lent number a pointer. 14 is tested first,
+// success is 0, and a refusal changes no byte of any buffer. Calls that move the gauge and calls that look at it work where the bytes are; opening and
+// converting make a gauge value, which is saved.
 ghost use mathlib.Core.Path.{_≡_};
 ghost use lib.ListN.{length};
 ghost use Rattle.handset.specs.Calls as Spec;
-use crate::keep::host_place;
 use crate::keep::keep;
-use crate::key::write_key;
-use command::command::command_of;
 use every_form::every_form::load;
-use form::form::LENGTH;
-use gauge::calls::CTRL;
-use gauge::calls::LAST_WRITABLE;
 use gauge::opening::open;
 use load::load::decoded;
 use load::load::form_fits;
-use refusals::BUFFER_LENGTH;
-use refusals::NONE;
-use refusals::NOT_WRITABLE;
+use looks::preview_key::preview;
+use looks::reading::read_in;
+use moves::rest::rest;
+use moves::window::window;
+use moves::write::write;
 use refusals::REJECTED;
-use registers::reading::read;
-use registers::whole::REGISTER_COUNT;
-
-// The bytes of the newest form.
-const SAVED_LENGTH: usize = LENGTH as usize;
-
-// All registers, from CTRL on.
-const REGISTERS: u32 = REGISTER_COUNT as u32;
 
 // Refuses 1, 2, 13.
 #[no_mangle]
@@ -59,12 +47,7 @@ pub extern "C" fn gauge_window(
     ensures number { λ r. ⌜ r ≡ Spec.callNumber (now (saved .entry)) (Spec.windowCall current voltage temperature) ⌝ }
     ensures bytes { λ _. ⌜ now (saved .exit) ≡ Spec.callBytes (now (saved .entry)) (Spec.windowCall current voltage temperature) ⌝ }
 {
-    if !form_fits(saved) {
-        return REJECTED;
-    }
-    let gauge = decoded(saved);
-    let answer = gauge.window(current, voltage, temperature);
-    keep(answer, saved)
+    window(saved, current, voltage, temperature)
 }
 
 // Refuses 14, 6, 5.
@@ -73,36 +56,16 @@ pub extern "C" fn gauge_rest(saved: &mut [u8], windows: u32, temperature: i32) -
     ensures number { λ r. ⌜ r ≡ Spec.callNumber (now (saved .entry)) (Spec.restCall windows temperature) ⌝ }
     ensures bytes { λ _. ⌜ now (saved .exit) ≡ Spec.callBytes (now (saved .entry)) (Spec.restCall windows temperature) ⌝ }
 {
-    if !form_fits(saved) {
-        return REJECTED;
-    }
-    let gauge = decoded(saved);
-    let answer = gauge.rest(windows, temperature);
-    keep(answer, saved)
+    rest(saved, windows, temperature)
 }
 
-// Refuses 14, 7 to 11. A byte that is stored as given is put where the saved bytes hold it; only a command saves the whole gauge.
+// Refuses 14, 7 to 11.
 #[no_mangle]
 pub extern "C" fn gauge_write(saved: &mut [u8], address: u32, value: u8) -> u32
     ensures number { λ r. ⌜ r ≡ Spec.callNumber (now (saved .entry)) (Spec.writeCall address value) ⌝ }
     ensures bytes { λ _. ⌜ now (saved .exit) ≡ Spec.callBytes (now (saved .entry)) (Spec.writeCall address value) ⌝ }
 {
-    if address == CTRL {
-        return write_key(saved, value);
-    }
-    if !form_fits(saved) {
-        return REJECTED;
-    }
-    let gauge = decoded(saved);
-    if !gauge.accepted() {
-        return REJECTED;
-    }
-    if LAST_WRITABLE < address {
-        return NOT_WRITABLE;
-    }
-    let place = host_place(address);
-    saved[place] = value;
-    NONE
+    write(saved, address, value)
 }
 
 // Refuses 14, 12, 13.
@@ -117,35 +80,17 @@ pub extern "C" fn gauge_read(
     ensures number { λ r. ⌜ r ≡ Spec.readNumber (now (saved .entry)) address count place (length (now (reply .entry))) ⌝ }
     ensures bytes { λ _. ⌜ now (reply .exit) ≡ Spec.readReply (now (saved .entry)) address count place (now (reply .entry)) ⌝ }
 {
-    if !form_fits(saved) {
-        return REJECTED;
-    }
-    let gauge = decoded(saved);
-    read(gauge, address, count, reply, place)
+    read_in(saved, address, count, reply, place)
 }
 
-// "the write done on a copy and then read": of the bytes, so that write and read are in the archive once. Refuses 14, 8 to 11, 13.
+// "the write done on a copy and then read". Refuses 14, 8 to 11, 13.
 #[no_mangle]
 pub extern "C" fn gauge_preview(saved: &[u8], key: u8, reply: &mut [u8], command: &mut u8) -> u32
     ensures number { λ r. ⌜ r ≡ Spec.previewNumber (now (saved .entry)) key (length (now (reply .entry))) ⌝ }
     ensures bytes { λ _. ⌜ now (reply .exit) ≡ Spec.previewReply (now (saved .entry)) key (now (reply .entry)) ⌝ }
     ensures command { λ _. ⌜ now (command .exit) ≡ Spec.previewCommand (now (saved .entry)) key (length (now (reply .entry))) (now (command .entry)) ⌝ }
 {
-    if saved.len() != SAVED_LENGTH {
-        return REJECTED;
-    }
-    let mut copied = [0u8; SAVED_LENGTH];
-    bytes::copy(saved, &mut copied);
-    let number = write_key(&mut copied, key);
-    if number != NONE {
-        return number;
-    }
-    if reply.len() != REGISTERS as usize {
-        return BUFFER_LENGTH;
-    }
-    let gauge = decoded(saved);
-    *command = command_of(key, gauge.host.mode, gauge.host.ar);
-    gauge_read(&copied, CTRL, REGISTERS, reply, 0)
+    preview(saved, key, reply, command)
 }
 
 // "Charge from a rested cell". Refuses 14, 15, 16.

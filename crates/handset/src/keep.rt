@@ -1,11 +1,7 @@
 // What a call leaves in the saved bytes.
 ghost use mathlib.Core.Path.{_≡_};
-ghost use Prim.Native.Nat.{_<_};
 ghost use lib.ListN.{length};
 ghost use Rattle.handset.specs.Keep as Spec;
-ghost use Rattle.form.specs.Form.{savedLength};
-use form::form::AT_AR;
-use form::form::AT_MODE;
 use gauge::answer::Answer;
 use refusals::NONE;
 use saved::save::put;
@@ -35,18 +31,4 @@ pub(crate) fn keep(answer: Answer, saved: &mut [u8]) -> u32
         counters,
         saved,
     )
-}
-
-// Where the saved bytes hold the byte that a host write stores: MODE at 1, AR low at 2 or AR high at 3.
-pub(crate) fn host_place(address: u32) -> usize
-    ensures { λ r. ⌜ r ≡ Spec.hostPlace address ⌝ }
-    ensures range { λ r. ⌜ r < savedLength ⌝ }
-{
-    if address == 1 {
-        return AT_MODE as usize;
-    }
-    if address == 2 {
-        return AT_AR as usize;
-    }
-    AT_AR as usize + 1
 }

@@ -1,4 +1,3 @@
 // The calls from C on the saved bytes.
 pub mod calls;
 mod keep;
-mod key;

@@ -1,2 +1,4 @@
 pub mod LoadLaws
+pub mod LookLaws
+pub mod PartsLaws
 pub mod TakenLaws

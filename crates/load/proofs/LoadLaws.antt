@@ -52,17 +52,18 @@ module _ (bytes : List ℕ) where
 
   -- ---- bytes that are not tested yet
 
-  pub own-length : (others : List ℕ) → length bytes ≡ savedLength → bytes ≡ ofLength bytes others
+  own-length : (others : List ℕ) → length bytes ≡ savedLength → bytes ≡ ofLength bytes others
   unfolding ofLength
   own-length others l = simp (eq-eqb (length bytes) savedLength l)
 
-  pub other-length : (others : List ℕ) → (length bytes ≡ savedLength → ⊥) → others ≡ ofLength bytes others
+  other-length : (others : List ℕ) → (length bytes ≡ savedLength → ⊥) → others ≡ ofLength bytes others
   unfolding ofLength
   other-length others h = simp (ne-eqb (length bytes) savedLength h)
 
-  pub decoded-of : {source : List ℕ} {g : Gauge} → source ≡ ofLength bytes (replicate savedLength 0) → g ≡ readIn newest source → g ≡ decodedGauge bytes
+  -- those of another length, a gauge of zeros
+  pub other-decoded : (length bytes ≡ savedLength → ⊥) → readIn newest (replicate savedLength 0) ≡ decodedGauge bytes
   unfolding decodedGauge
-  decoded-of e p = p ∙ ap (readIn newest) e
+  other-decoded h = ap (readIn newest) (other-length (replicate savedLength 0) h)
 
   -- bytes of the form's length hold a gauge value
   pub decoded-whole : length bytes ≡ savedLength → decodedGauge bytes ≡ readIn newest bytes

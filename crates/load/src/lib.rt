@@ -1,2 +1,4 @@
-// The gauge that saved bytes of the newest form hold.
+// Loading a gauge, or a part of it, from bytes of the newest form.
+mod field;
 pub mod load;
+pub mod parts;

@@ -1,110 +1,31 @@
 // Loading a gauge from bytes of the newest form.
 ghost use mathlib.Core.Path.{_≡_};
 ghost use Rattle.form.specs.Form.{newest};
-ghost use Rattle.load.specs.Fields as Fields;
+ghost use Rattle.gauge.specs.Accepted.{accepted};
 ghost use Rattle.load.specs.Load as Spec;
-use charge::charge::Charge;
-use configuration::settings::Settings;
-use counters::counters::Counters;
-use counters::cycles::Cycles;
+use crate::parts::loaded_charge;
+use crate::parts::loaded_counters;
+use crate::parts::loaded_flags;
+use crate::parts::loaded_host;
+use crate::parts::loaded_sample;
+use crate::parts::loaded_settings;
+use crate::parts::loaded_standby;
+use configuration::configuration::dmf;
 use flags::byte::flags_fit;
-use flags::byte::flags_of;
-use flags::byte::vdq_of;
-use form::form::AT_AR;
-use form::form::AT_CONFIGURATION;
 use form::form::AT_CURRENT;
-use form::form::AT_CYCLE_DRAIN;
-use form::form::AT_CYCT;
-use form::form::AT_DCR;
 use form::form::AT_FLAGS;
 use form::form::AT_FORM;
-use form::form::AT_HELD;
-use form::form::AT_LMD;
-use form::form::AT_MODE;
-use form::form::AT_RESTS;
-use form::form::AT_STANDBY;
-use form::form::AT_TEMPERATURE;
-use form::form::AT_VOLTAGE;
 use form::form::FORM;
 use form::form::LENGTH;
 use form::signed::current_of;
 use gauge::answer::Answer;
 use gauge::opening::open;
 use gauge::state::Gauge;
-use grains::run::Run;
-use host::host::Host;
 use numbers::little::byte_at;
-use numbers::little::eight_at;
-use numbers::little::four_at;
-use numbers::little::ten_at;
 use numbers::little::two_at;
 use refusals::NONE;
 use refusals::REJECTED;
-use sample::sample::Sample;
-
-fn loaded_charge(bytes: &[u8]) -> Charge
-    ensures { λ r. ⌜ r ≡ Fields.chargeFrom (Spec.numbersIn newest (now (bytes .entry))) ⌝ }
-{
-    let held = eight_at(bytes, AT_HELD);
-    let dcr = eight_at(bytes, AT_DCR);
-    let lmd = two_at(bytes, AT_LMD);
-    let vdq = vdq_of(byte_at(bytes, AT_FLAGS as usize));
-    let run = Run { vdq, dcr };
-    Charge { held, lmd, run }
-}
-
-fn loaded_sample(bytes: &[u8]) -> Sample
-    ensures { λ r. ⌜ r ≡ Fields.sampleFrom (Spec.numbersIn newest (now (bytes .entry))) ⌝ }
-{
-    let current = current_of(two_at(bytes, AT_CURRENT));
-    let voltage = two_at(bytes, AT_VOLTAGE);
-    let temperature = two_at(bytes, AT_TEMPERATURE);
-    Sample {
-        current,
-        voltage,
-        temperature,
-    }
-}
-
-fn loaded_host(bytes: &[u8]) -> Host
-    ensures { λ r. ⌜ r ≡ Fields.hostFrom (Spec.numbersIn newest (now (bytes .entry))) ⌝ }
-{
-    let mode = byte_at(bytes, AT_MODE as usize);
-    let ar = two_at(bytes, AT_AR);
-    Host { mode, ar }
-}
-
-fn loaded_counters(bytes: &[u8]) -> Counters
-    ensures { λ r. ⌜ r ≡ Fields.countersFrom (Spec.numbersIn newest (now (bytes .entry))) ⌝ }
-{
-    let rests = four_at(bytes, AT_RESTS);
-    let cyct = two_at(bytes, AT_CYCT);
-    let drain = eight_at(bytes, AT_CYCLE_DRAIN);
-    let cycles = Cycles { cyct, drain };
-    Counters { rests, cycles }
-}
-
-// What the bytes hold, accepted or not; a byte past their end is 0.
-fn loaded_gauge(bytes: &[u8]) -> Gauge
-    ensures { λ r. ⌜ r ≡ Spec.readIn newest (now (bytes .entry)) ⌝ }
-{
-    let settings = Settings::opened(ten_at(bytes, AT_CONFIGURATION));
-    let charge = loaded_charge(bytes);
-    let sample = loaded_sample(bytes);
-    let standby = two_at(bytes, AT_STANDBY);
-    let flags = flags_of(byte_at(bytes, AT_FLAGS as usize));
-    let host = loaded_host(bytes);
-    let counters = loaded_counters(bytes);
-    Gauge {
-        settings,
-        charge,
-        sample,
-        standby,
-        flags,
-        host,
-        counters,
-    }
-}
+use standby::standby::standby_accepted;
 
 // Bytes of a length and a number, with no flags but those that a gauge value has room for.
 pub fn in_form(bytes: &[u8], number: u8, length: u16) -> bool
@@ -152,23 +73,46 @@ pub fn unless_rejected(gauge: Gauge) -> Answer
     }
 }
 
-// The bytes where they are of the form's length, else the others.
-fn of_length<'a>(bytes: &'a [u8], others: &'a [u8]) -> &'a [u8]
-    ensures { λ r. ⌜ now r ≡ Spec.ofLength (now (bytes .entry)) (now (others .entry)) ⌝ }
-{
-    if bytes.len() == LENGTH as usize {
-        return bytes;
-    }
-    others
-}
-
-// What the bytes hold, accepted or not; bytes of another length are read as so many zeros. The length is tested here, once, so that
-// no read of a field tests it again.
+// What the bytes hold, accepted or not; bytes of another length are read as so many zeros.
 pub fn decoded(bytes: &[u8]) -> Gauge
     ensures { λ r. ⌜ r ≡ Spec.decodedGauge (now (bytes .entry)) ⌝ }
 {
-    let zeros = [0u8; LENGTH as usize];
-    loaded_gauge(of_length(bytes, &zeros))
+    let settings = loaded_settings(bytes);
+    let charge = loaded_charge(bytes);
+    let sample = loaded_sample(bytes);
+    let standby = loaded_standby(bytes);
+    let flags = loaded_flags(bytes);
+    let host = loaded_host(bytes);
+    let counters = loaded_counters(bytes);
+    Gauge {
+        settings,
+        charge,
+        sample,
+        standby,
+        flags,
+        host,
+        counters,
+    }
+}
+
+// What 14 asks of the gauge value that the bytes hold, tested where they are.
+pub fn gauge_accepted(bytes: &[u8]) -> bool
+    ensures { λ r. ⌜ r ≡ accepted (Spec.decodedGauge (now (bytes .entry))) ⌝ }
+{
+    let settings = loaded_settings(bytes);
+    if !settings.accepted() {
+        return false;
+    }
+    if !loaded_charge(bytes).accepted() {
+        return false;
+    }
+    if !standby_accepted(settings, loaded_standby(bytes)) {
+        return false;
+    }
+    if !loaded_sample(bytes).accepted(dmf(settings)) {
+        return false;
+    }
+    loaded_counters(bytes).accepted()
 }
 
 // The gauge that bytes of the newest form hold, or 14.

@@ -1,3 +1,2 @@
-// What a key at CTRL would do, without doing it.
+// What a key at CTRL would do, without doing it: definitions, and the claim on what is shown.
 pub mod claim;
-pub mod preview;

@@ -1,6 +1,1 @@
 pub mod CopyLaws
-pub mod MapLaws
-pub mod ReadingLaws
-pub mod TimesLaws
-pub mod ValuesLaws
-pub mod WholeLaws

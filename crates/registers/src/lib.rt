@@ -1,6 +1,4 @@
-// The registers: what each shows, the map, the whole map at once, and a read into the host's reply.
-mod map;
-pub mod reading;
-mod times;
-mod values;
-pub mod whole;
+// The registers: definitions of what each shows, of the map and of a read. The code stands in `looks`.
+
+// The addresses 0x00 to 0x7F.
+pub const REGISTER_COUNT: usize = 128;

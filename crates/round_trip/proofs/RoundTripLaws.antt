@@ -56,7 +56,7 @@ module _ (g : Gauge) where
         ∙ byte-accepted (g .sample .current .charging) (g .charge .run .vdq) (g .flags))
 
   -- those bytes are accepted, as the same gauge
-  load-back : FieldsFit g → accepted g ≡ true → answerIn newest (savedBytes g) ≡ answer Refusal.none g
+  pub load-back : FieldsFit g → accepted g ≡ true → answerIn newest (savedBytes g) ≡ answer Refusal.none g
   load-back f e =
       let a = sound g e .sample .current in
       sym (accepted-loads newest (savedBytes g) (saved-fits f a) (sym (read-saved g f a) ∙ newest-loaded (savedBytes g)) e)

@@ -1,12 +1,15 @@
--- Numbers put among bytes from a place on, one after the other, are what they make together. Assumes nothing.
+-- Numbers put among bytes from a place on, one after the other, are what they make together; bytes of another length than the form's keep. Assumes nothing.
 use mathlib.Core.List.{List, [], _∷_, _++_}
 use mathlib.Core.Path.{_≡_, refl, sym, ap, _∙_}
 use Prim.Native.Nat.{ℕ, zero, suc, _+_, _*_, _/_, _%_, _^_, _<_}
 use native.Mathlib.Nat.{div-add-mod, div-div-eq-div-mul, div-one, mod-eq-of-lt, mod-lt, mul-add-mod-self-left, mul-assoc, mul-comm, pow-suc, suc-add, zero-add}
 use native.Mathlib.Omega.{arith}
 use lib.ListN.{length, set}
+use borrow.Author.Tests.{eq-eqb, ne-eqb}
 use lib.Seq.{sets}
+use Rattle.form.specs.Form.{savedLength}
 use Rattle.numbers.specs.Little.{little}
+use Rattle.saved.specs.Put.{inForm}
 
 pub sets-append : (l : List ℕ) (i n : ℕ) (xs ys : List ℕ) → length xs ≡ n → sets (sets l i xs) (i + n) ys ≡ sets l i (xs ++ ys)
 sets-append l i n [] ys e =
@@ -71,3 +74,12 @@ parts-put m n l l1 l2 i v p q =
     let low = p ∙ ap (sets l i) (little-low m v) in
     q ∙ ap (λ (x : List ℕ). sets x (i + m) (little n (v / 256 ^ m))) low
     ∙ sets-append l i m (little m v) (little n (v / 256 ^ m)) (little-length m v) ∙ ap (sets l i) (little-append m n v)
+
+-- ---- a part
+
+module _ (bytes : List ℕ) where
+  pub put-kept : (after : List ℕ) → (length bytes ≡ savedLength → ⊥) → bytes ≡ inForm bytes after
+  put-kept after h = simp (ne-eqb (length bytes) savedLength h)
+
+  pub put-done : {after r : List ℕ} → length bytes ≡ savedLength → r ≡ after → r ≡ inForm bytes after
+  put-done l e = simp (eq-eqb (length bytes) savedLength l) e

@@ -8,13 +8,13 @@ use lib.Dec.{eqb}
 use lib.ListN.{drop, length, replicate, take}
 use lib.Seq.{drop-length, sets, sets-eq, take-length}
 use borrow.Author.Tests.{eq-eqb, ne-eqb}
-use Rattle.form.specs.Form.{Flags, Standby, newest, savedLength}
+use Rattle.form.specs.Form.{newest, savedLength}
 use Rattle.gauge.specs.Accepted.{accepted}
 use Rattle.gauge.specs.declared.state.Gauge.{Gauge}
-use Rattle.load.specs.Fields.{bytesIn, flagsOfGauge, numberIn}
+use Rattle.load.specs.Fields.{bytesIn, numberIn}
 use Rattle.refusals.specs.Refusal as Refusal
 use Rattle.saved.proofs.FormLaws.{fields-length, fields-put}
-use Rattle.saved.specs.Put.{chargePut, countersPut, headed, hostPut, numberPut, samplePut}
+use Rattle.saved.specs.Put.{chargePut, countersPut, flagsPut, headed, hostPut, samplePut, standbyPut}
 use Rattle.saved.specs.Save.{bufferAfter, fieldBytes, lengthRefusal, putAfter, saveRefusal, savedBytes}
 
 -- a list put over a whole one
@@ -32,20 +32,20 @@ module _ (g : Gauge) where
   saved-length = fields-length g (newest .fields)
 
   -- the parts, one after the other, are the fields of the form
-  parts-put : countersPut (g .counters) (numberPut Flags (flagsOfGauge g) (hostPut (g .host) (samplePut (g .sample) (numberPut Standby (g .standby)
-      (chargePut (g .charge) (headed (g .settings)))))))
+  parts-put : countersPut (g .counters) (flagsPut (g .sample .current .charging) (g .charge .run .vdq) (g .flags) (hostPut (g .host) (samplePut (g .sample)
+      (standbyPut (g .standby) (chargePut (g .charge) (headed (g .settings)))))))
       ≡ sets (replicate savedLength 0) 0 (savedBytes g)
-  unfolding headed chargePut samplePut hostPut countersPut savedBytes fieldBytes numberIn bytesIn
+  unfolding headed chargePut standbyPut samplePut hostPut flagsPut countersPut savedBytes fieldBytes numberIn bytesIn
   parts-put = fields-put g (replicate savedLength 0) 0 (newest .fields)
 
-  pub encoded-is : {b1 b2 b3 b4 b5 b6 b7 : List ℕ} {byte : ℕ} → b1 ≡ headed (g .settings) → b2 ≡ chargePut (g .charge) b1
-      → b3 ≡ numberPut Standby (g .standby) b2 → b4 ≡ samplePut (g .sample) b3 → b5 ≡ hostPut (g .host) b4 → byte ≡ flagsOfGauge g
-      → b6 ≡ numberPut Flags byte b5 → b7 ≡ countersPut (g .counters) b6 → b7 ≡ savedBytes g
-  encoded-is {b5 = b5} e1 e2 e3 e4 e5 f e6 e7 =
+  pub encoded-is : {b1 b2 b3 b4 b5 b6 b7 : List ℕ} → b1 ≡ headed (g .settings) → b2 ≡ chargePut (g .charge) b1 → b3 ≡ standbyPut (g .standby) b2
+      → b4 ≡ samplePut (g .sample) b3 → b5 ≡ hostPut (g .host) b4 → b6 ≡ flagsPut (g .sample .current .charging) (g .charge .run .vdq) (g .flags) b5
+      → b7 ≡ countersPut (g .counters) b6 → b7 ≡ savedBytes g
+  encoded-is e1 e2 e3 e4 e5 e6 e7 =
       e7
-      ∙ ap (countersPut (g .counters)) (e6 ∙ ap (λ (n : ℕ). numberPut Flags n b5) f
-      ∙ ap (numberPut Flags (flagsOfGauge g)) (e5 ∙ ap (hostPut (g .host)) (e4 ∙ ap (samplePut (g .sample)) (e3 ∙ ap (numberPut Standby (g .standby))
-      (e2 ∙ ap (chargePut (g .charge)) e1)))))
+      ∙ ap (countersPut (g .counters)) (e6
+      ∙ ap (flagsPut (g .sample .current .charging) (g .charge .run .vdq) (g .flags)) (e5 ∙ ap (hostPut (g .host)) (e4 ∙ ap (samplePut (g .sample))
+      (e3 ∙ ap (standbyPut (g .standby)) (e2 ∙ ap (chargePut (g .charge)) e1)))))
       ∙ parts-put ∙ whole-put (replicate savedLength 0) (savedBytes g) saved-length
 
 -- ---- a buffer

@@ -1,2 +1,3 @@
+pub mod Call
 pub mod Put
 pub mod Save

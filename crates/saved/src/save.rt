@@ -4,40 +4,29 @@ ghost use lib.ListN.{length};
 ghost use Rattle.gauge.specs.Parts.{gaugeOf};
 ghost use Rattle.saved.specs.Put as Put;
 ghost use Rattle.saved.specs.Save as Spec;
-use crate::place::Saved;
-use crate::place::put_eight;
-use crate::place::put_four;
-use crate::place::put_one;
-use crate::place::put_two;
+use crate::parts::put_charge;
+use crate::parts::put_counters;
+use crate::parts::put_flags;
+use crate::parts::put_host;
+use crate::parts::put_sample;
+use crate::parts::put_standby;
 use charge::charge::Charge;
 use configuration::settings::Settings;
 use counters::counters::Counters;
-use flags::byte::flags_byte;
 use flags::flags::Flags;
-use form::form::AT_AR;
 use form::form::AT_CONFIGURATION;
-use form::form::AT_CURRENT;
-use form::form::AT_CYCLE_DRAIN;
-use form::form::AT_CYCT;
-use form::form::AT_DCR;
-use form::form::AT_FLAGS;
 use form::form::AT_FORM;
-use form::form::AT_HELD;
-use form::form::AT_LMD;
-use form::form::AT_MODE;
-use form::form::AT_RESTS;
-use form::form::AT_STANDBY;
-use form::form::AT_TEMPERATURE;
-use form::form::AT_VOLTAGE;
 use form::form::FORM;
 use form::form::LENGTH;
-use form::signed::signed_pair;
 use gauge::state::Gauge;
 use host::host::Host;
 use refusals::BUFFER_LENGTH;
 use refusals::NONE;
 use refusals::REJECTED;
 use sample::sample::Sample;
+
+// The bytes of the form, one value.
+type Saved = [u8; LENGTH as usize];
 
 // The form's number and the configuration, over zeros. The ten bytes are stored one by one, so that the compiler sees each where it was
 // read and leaves out the store.
@@ -61,38 +50,6 @@ fn headed(settings: Settings) -> Saved
     bytes
 }
 
-fn put_charge(bytes: &mut Saved, charge: Charge)
-    ensures { λ _. ⌜ now (bytes .exit) ≡ Put.chargePut charge (now (bytes .entry)) ⌝ }
-{
-    put_eight(bytes, AT_HELD, charge.held);
-    put_eight(bytes, AT_DCR, charge.run.dcr);
-    put_two(bytes, AT_LMD, charge.lmd);
-}
-
-fn put_sample(bytes: &mut Saved, sample: Sample)
-    ensures { λ _. ⌜ now (bytes .exit) ≡ Put.samplePut sample (now (bytes .entry)) ⌝ }
-{
-    let current = sample.current;
-    put_two(bytes, AT_CURRENT, signed_pair(current));
-    put_two(bytes, AT_VOLTAGE, sample.voltage);
-    put_two(bytes, AT_TEMPERATURE, sample.temperature);
-}
-
-fn put_host(bytes: &mut Saved, host: Host)
-    ensures { λ _. ⌜ now (bytes .exit) ≡ Put.hostPut host (now (bytes .entry)) ⌝ }
-{
-    put_two(bytes, AT_AR, host.ar);
-    put_one(bytes, AT_MODE, host.mode);
-}
-
-fn put_counters(bytes: &mut Saved, counters: Counters)
-    ensures { λ _. ⌜ now (bytes .exit) ≡ Put.countersPut counters (now (bytes .entry)) ⌝ }
-{
-    put_four(bytes, AT_RESTS, counters.rests);
-    put_two(bytes, AT_CYCT, counters.cycles.cyct);
-    put_eight(bytes, AT_CYCLE_DRAIN, counters.cycles.drain);
-}
-
 // The bytes of a gauge, accepted or not.
 fn encoded(gauge: Gauge) -> Saved
     ensures { λ r. ⌜ r ≡ Spec.savedBytes gauge ⌝ }
@@ -103,13 +60,12 @@ fn encoded(gauge: Gauge) -> Saved
     let flags = gauge.flags;
     let host = gauge.host;
     let counters = gauge.counters;
-    let byte = flags_byte(sample.current.charging, charge.run.vdq, flags);
     let mut bytes = headed(settings);
     put_charge(&mut bytes, charge);
-    put_two(&mut bytes, AT_STANDBY, gauge.standby);
+    put_standby(&mut bytes, gauge.standby);
     put_sample(&mut bytes, sample);
     put_host(&mut bytes, host);
-    put_one(&mut bytes, AT_FLAGS, byte);
+    put_flags(&mut bytes, sample.current.charging, charge.run.vdq, flags);
     put_counters(&mut bytes, counters);
     bytes
 }

@@ -1,6 +1,6 @@
 -- The calls from C: their numbers in order, what they hand out, and what they leave where they are refused. Each number by hand, from the papers
 -- and from the bytes of `Packs`. Definitions only; assumes nothing.
-use mathlib.Core.List.{List, [], _∷_}
+use mathlib.Core.List.{List, [], _∷_, _++_}
 use mathlib.Core.Path.{_≡_}
 use Prim.Native.Nat.{ℕ}
 use lib.IntN.{pos, negsuc}
@@ -10,11 +10,17 @@ use Rattle.gauge.specs.Calls.{windowAnswer}
 use Rattle.gauge.specs.Opening.{openAnswer}
 use Rattle.gauge.specs.declared.answer.Answer.{Answer}
 use Rattle.gauge.specs.declared.state.Gauge.{Gauge}
-use Rattle.handset.specs.Calls.{callBytes, callNumber, convertBytes, convertNumber, estimateCounts, estimateDistance, estimateNumber, openBytes, openNumber}
-use Rattle.handset.specs.Calls.{lookNumber, previewCommand, previewNumber, previewReply, readNumber, readReply, windowCall}
-use Rattle.handset.specs.Keep.{hostPlace, keptBytes, keptNumber}
+use Rattle.handset.specs.Calls.{convertBytes, convertNumber, estimateCounts, estimateDistance, estimateNumber, openBytes, openNumber}
+use Rattle.saved.specs.Call.{callBytes, callNumber}
+use Rattle.handset.specs.Calls.{previewCommand, previewNumber, previewReply, readNumber, readReply, windowCall}
+use Rattle.load.specs.Look.{lookNumber}
+use Rattle.handset.specs.Keep.{keptBytes, keptNumber}
 use Rattle.history.specs.Call.{rest}
+use Rattle.moves.specs.Direction.{charging, discharging}
+use Rattle.moves.specs.Key.{keyBytes, keyNumber}
+use Rattle.moves.specs.Place.{hostPlace}
 use Rattle.round_trip.specs.RoundTrip.{reloadedAnswer}
+use Rattle.sample.specs.Range.{currentOf}
 use Rattle.scripted.specs.Packs.{bench, everySet, keptCharging, keptDischarging, keptForm4}
 use Rattle.scripted.specs.Script.{started}
 
@@ -56,6 +62,24 @@ pub record HandedRows : Type 0 where
   pub place-mode : hostPlace 1 ≡ 39
   pub place-ar-low : hostPlace 2 ≡ 37
   pub place-ar-high : hostPlace 3 ≡ 38
+  -- a key on the bytes. MODE 0x6B obeys WRTNAC, and AR 3,287 is above LMD 2,003: h is 2,003 × G, DCR 0, MODE 0x40, FLAGS without VDQ. Bytes of another length
+  -- have no command bit
+  pub key-0 : keyNumber keptCharging 0xA9 ≡ 0
+  pub key-8 : keyNumber keptCharging 0x57 ≡ 8
+  pub key-10 : keyNumber keptCharging 0x56 ≡ 10
+  pub key-9 : keyNumber (replicate 54 7) 0xA9 ≡ 9
+  pub key-done : keyBytes keptCharging 0xA9
+      ≡ take 11 keptCharging
+      ++ (0x40 ∷ 0xDB ∷ 0x64 ∷ 0xF5 ∷ 0x3E ∷ 0x00 ∷ 0x00 ∷ 0x00
+      ∷ 0x00 ∷ 0x00 ∷ 0x00 ∷ 0x00 ∷ 0x00 ∷ 0x00 ∷ 0x00 ∷ 0x00 ∷ set (set (drop 27 keptCharging) 12 0x40) 13 0x91)
+  pub key-kept : keyBytes keptCharging 0x57 ≡ keptCharging
+  -- MODE 0x48 obeys PRST: h, LMD, CI and the cycles stay; DCR, c, VOLT, TEMP, AR and the count are 0, SI is 160, MODE 0x44
+  pub key-reset : keyBytes (set keptCharging 39 0x48) 0xA9
+      ≡ take 19 keptCharging
+      ++ (replicate 8 0 ++ (0xD3 ∷ 0x07 ∷ 0xA0 ∷ 0x00 ∷ (replicate 8 0 ++ (0x44 ∷ 0x10 ∷ (replicate 4 0 ++ drop 45 keptCharging)))))
+  -- a current by its direction
+  pub charging-5 : charging 5 ≡ currentOf (pos 5)
+  pub discharging-5 : discharging 5 ≡ currentOf (negsuc 4)
   -- a read of TEMP 0x044D and VOLT 0x0D81 into the middle of a reply; 12, 13 and, of an older form, 14 leave it
   pub read-0 : readNumber keptDischarging 0x06 4 2 8 ≡ 0
   pub read-12 : readNumber keptDischarging 0x7F 2 7 8 ≡ 12

@@ -5,7 +5,7 @@ use mathlib.Core.List.{List, [], _∷_, _++_}
 use mathlib.Core.Path.{_≡_}
 use Prim.Native.Nat.{ℕ, zero, suc, _+_, _-_, _*_}
 use lib.IntN.{pos, negsuc}
-use lib.ListN.{replicate, set, take}
+use lib.ListN.{drop, replicate, set, take}
 use Rattle.charge.specs.Charge.{emptyStop}
 use Rattle.charge.specs.Step.{leakedAtOnce}
 use Rattle.charge.specs.declared.charge.Charge.{Charge}
@@ -32,7 +32,7 @@ use Rattle.permille.specs.Rule.{rule}
 use Rattle.permille.specs.Table.{entries, entryVoltage, permille}
 use Rattle.registers.specs.Map.{configurationPair, pairAt}
 use Rattle.registers.specs.Reading.{pairBytes, readRefusal}
-use Rattle.registers.specs.Whole.{allAnswer, withPair}
+use Rattle.registers.specs.Whole.{wholeMap, withPair}
 use Rattle.sample.specs.Current.{noCurrent}
 use Rattle.sample.specs.Range.{current, currentOf, temperature, voltage}
 use Rattle.saved.specs.Save.{savedBytes}
@@ -113,10 +113,8 @@ pub record RuleRows : Type 0 where
   pub pair-no-third : pairBytes 0x1234 0 3 ≡ 0x34 ∷ 0x12 ∷ []
   pub pair-of-none : configurationPair (openedSettings []) 0 ≡ 0
   pub pair-put : withPair 1 0x1234 (replicate 4 7) ≡ 7 ∷ 0x34 ∷ 0x12 ∷ 7 ∷ []
-  pub all-refused : (allAnswer refused) .bytes ≡ replicate 128 0
-  pub all-14 : (allAnswer refused) .number ≡ 14
-  pub all-0 : (allAnswer (started keptDischarging)) .number ≡ 0
-  pub all-mode : take 2 ((allAnswer (started keptDischarging)) .bytes) ≡ 0x00 ∷ 0xDA ∷ []
+  pub all-mode : take 2 (wholeMap (started keptDischarging)) ≡ 0x00 ∷ 0xDA ∷ []
+  pub all-tcomp : drop 127 (wholeMap (started keptCharging)) ≡ 0x15 ∷ []
   -- the 301 entries, worked out in whole numbers from the nine points; the rule beside an entry and past the table
   pub table : entriesSum 301 ≡ 24_732_285
   pub table-last : entryVoltage (entries - 1) ≡ 4_200

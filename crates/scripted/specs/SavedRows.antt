@@ -9,14 +9,14 @@ use lib.ListN.{length, replicate, set, take}
 use Rattle.configuration.specs.Settings.{openedSettings}
 use Rattle.drive.specs.OlderForms.{countersOf, gaugeOf41}
 use Rattle.every_form.specs.EveryForm.{expectedBy, loadAnswer}
-use Rattle.form.specs.Form.{Dcr, Field, Flags, Held, Rests, Standby, form1, form4, formOf, nameNumber, newest, ofNumber, placeOf, sameName, widthOf}
+use Rattle.form.specs.Form.{Dcr, Field, Held, Rests, form1, form4, formOf, nameNumber, newest, ofNumber, placeOf, sameName, widthOf}
 use Rattle.form.specs.InNewest.{inNewest}
 use Rattle.form.specs.Signed as Pair
 use Rattle.gauge.specs.declared.state.Gauge.{Gauge}
 use Rattle.load.specs.Load.{answerIn, carriedStandby, decodedGauge, rejectedAnswer}
 use Rattle.round_trip.specs.RoundTrip.{reloadedAnswer}
 use Rattle.sample.specs.Range.{current, currentOf, temperature, voltage}
-use Rattle.saved.specs.Put.{chargePut, countersPut, headed, hostPut, numberPut, samplePut}
+use Rattle.saved.specs.Put.{chargePut, countersPut, flagsPut, headed, hostPut, partsPut, samplePut, standbyPut}
 use Rattle.saved.specs.Save.{bufferAfter, putAfter, saveRefusal, savedBytes}
 use Rattle.scripted.specs.KeptRows.{form4Saved}
 use Rattle.scripted.specs.Packs.{bench, everySet, keptCharging, keptDischarging, keptForm1, keptForm4}
@@ -26,12 +26,9 @@ use Rattle.scripted.specs.Script.{started}
 abbrev refused : Gauge
 refused = rejectedAnswer .gauge
 
--- its parts put among zeros, in the order of the code
-abbrev putTogether : Gauge → ℕ → List ℕ
-putTogether g flags =
-    countersPut (g .counters)
-    (numberPut Flags flags
-    (hostPut (g .host) (samplePut (g .sample) (numberPut Standby (g .standby) (chargePut (g .charge) (headed (g .settings)))))))
+-- the parts of a gauge put among zeros, in the order of the code
+abbrev putTogether : Gauge → List ℕ
+putTogether g = partsPut g (headed (g .settings))
 
 -- whether fields have their names' numbers from one on
 abbrev inOrder : ℕ → List Field → Bool
@@ -57,8 +54,17 @@ pub record SavedRows : Type 0 where
   pub reload-0 : (reloadedAnswer (started everySet)) .number ≡ 0
   pub reload-14 : (reloadedAnswer refused) .number ≡ 14
   pub put-head : headed (openedSettings bench) ≡ 5 ∷ (bench ++ replicate 44 0)
-  pub put-parts : putTogether (started keptDischarging) 0x06 ≡ keptDischarging
-  pub put-parts-charging : putTogether (started keptCharging) 0x95 ≡ keptCharging
+  pub put-parts : putTogether (started keptDischarging) ≡ keptDischarging
+  pub put-parts-charging : putTogether (started keptCharging) ≡ keptCharging
+  -- a part put where it stands, over bytes that keep; SI at 29, FLAGS at 40
+  pub put-standby : standbyPut 0x1234 keptCharging ≡ set (set keptCharging 29 0x34) 30 0x12
+  pub put-flags : flagsPut false true ((started keptCharging) .flags) keptCharging ≡ set keptCharging 40 0x15
+  pub put-charge-54 : chargePut ((started keptCharging) .charge) (replicate 54 7) ≡ replicate 54 7
+  pub put-standby-56 : standbyPut 0x1234 (replicate 56 7) ≡ replicate 56 7
+  pub put-sample-54 : samplePut ((started keptCharging) .sample) (replicate 54 7) ≡ replicate 54 7
+  pub put-host-56 : hostPut ((started keptCharging) .host) (replicate 56 7) ≡ replicate 56 7
+  pub put-flags-54 : flagsPut false true ((started keptCharging) .flags) (replicate 54 7) ≡ replicate 54 7
+  pub put-counters-56 : countersPut ((started keptCharging) .counters) (replicate 56 7) ≡ replicate 56 7
   -- loading: the form that a first byte tells, SI of form 1 with S0 310, bytes of another length
   pub expected-1 : expectedBy 1 ≡ record { number = 1; length = 41 }
   pub expected-2 : expectedBy 2 ≡ record { number = 2; length = 41 }

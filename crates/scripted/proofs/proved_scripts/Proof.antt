@@ -39,8 +39,8 @@ use Rattle.grains.specs.Leak.{band, leak, leakRate, risesUpTo, weight}
 use Rattle.grains.specs.Learning.{learned}
 use Rattle.grains.specs.Rest.{restLeak}
 use Rattle.grains.specs.Run.{drained, runAccepted, unlessPassed}
-use Rattle.handset.specs.Calls.{callBytes, callNumber, convertBytes, convertNumber, lookLeaves, lookNumber, openBytes, openNumber}
-use Rattle.handset.specs.Keep.{hostPlace, keptBytes, keptNumber}
+use Rattle.handset.specs.Calls.{convertBytes, convertNumber, openBytes, openNumber}
+use Rattle.handset.specs.Keep.{keptBytes, keptNumber}
 use Rattle.history.specs.Account.{afterEmptyStop, afterFull, afterRest, afterRestWindow, afterRun, afterSetting, afterSums, afterVoltage, afterWindow, leakNow}
 use Rattle.history.specs.After.{after, gaugeAfter, numberOf}
 use Rattle.history.specs.Claim.{begun}
@@ -60,6 +60,9 @@ use Rattle.lines.specs.Text.{linesOf}
 use Rattle.lines.specs.Word.{digitFed, firstFed, grown, wordFed, wordNumber}
 use Rattle.load.specs.Fields.{bytesIn, chargeFrom, countersFrom, gaugeFrom, hostFrom, numberIn, sampleFrom}
 use Rattle.load.specs.Load.{acceptedAnswer, answerIn, carriedStandby, decodedGauge, formFits, loaded, ofLength, readIn, rejectedAnswer}
+use Rattle.load.specs.Look.{lookLeaves, lookNumber}
+use Rattle.moves.specs.Key.{decidedPut, keyBytes, keyNumber, obeyedPut}
+use Rattle.moves.specs.Place.{hostPlace}
 use Rattle.permille.specs.Rule.{rule}
 use Rattle.permille.specs.Table.{inTable, permille}
 use Rattle.preview.specs.Preview as Preview
@@ -73,13 +76,13 @@ use Rattle.registers.specs.Reading as Reading′
 use Rattle.registers.specs.Reading.{placeRefusal, readRefusal}
 use Rattle.registers.specs.Times.{artte, stte, tte, ttf}
 use Rattle.registers.specs.Values.{fcac, reduction, rsoc, usableAt}
-use Rattle.registers.specs.Whole.{allAnswer}
 use Rattle.round_trip.specs.RoundTrip.{reloadedAnswer}
 use Rattle.sample.specs.Current.{chargeCurrent, counted, dischargeCurrent}
 use Rattle.sample.specs.Limits.{zeroOrWithin}
 use Rattle.sample.specs.Range.{between, currentInRange, valueBetween}
 use Rattle.sample.specs.Sample.{currentAccepted, noSample, sampleAccepted, sampleObeyed, sampleRested}
-use Rattle.saved.specs.Put.{chargePut, countersPut, headed, hostPut, samplePut}
+use Rattle.saved.specs.Call.{callBytes, callNumber}
+use Rattle.saved.specs.Put.{chargePut, countersPut, flagsPut, headed, hostPut, samplePut, standbyPut}
 use Rattle.saved.specs.Save.{bufferAfter, fieldBytes, putAfter, saveRefusal, savedBytes}
 use Rattle.standby.specs.Standby.{averaged, shown, standbyAccepted, standbyObeyed}
 use Rattle.scripted.proofs.proved_scripts.Statement.{statement}
@@ -94,18 +97,18 @@ unfolding endedAt Feed.fed fedAt isEnded lastOutput lastOutputAt afterFirst fedF
     noCycles bytesAfter calledBytes calledNumber bytesAfterSteps callsOf stepBytes distanceAfter distanceFrom estimateAfter estimateRefusal
     estimated loadAnswer flagsByte flagsFit flagsOf atEdv1 atEdvf atTaught clearedIf flagsObeyed laidOut inNewest widened currentOf signedPair
     accepted keyAnswer restAnswer storedAt windowAnswer writeAnswer writeRefusal written decided obeyed openAnswer openRefusal opened rest window
-    band leak leakRate risesUpTo weight learned restLeak drained runAccepted unlessPassed callBytes callNumber convertBytes convertNumber lookLeaves
-    lookNumber openBytes openNumber hostPlace keptBytes keptNumber afterEmptyStop afterFull afterRest afterRestWindow afterRun afterSetting
-    afterSums afterVoltage afterWindow leakNow after gaugeAfter numberOf begun gains unlessAbove afterCall afterCalls afterCommand afterKey
-    afterWork afterWrite hostAfter startedHistory refusalOf chargeOf countedCurrent qualifies reachesE1 reachesEdvf reachesFull stopsEmpty commanded
-    commandsCleared fullIf hostObeyed initCleared openedHost stored decimal decimalWithin joined line three words allDigits number ranged unsigned
-    valueFrom placeAfter putAt Reading.fed goesOn readAs spaced linesOf digitFed firstFed grown wordFed wordNumber bytesIn chargeFrom countersFrom
-    gaugeFrom hostFrom numberIn sampleFrom acceptedAnswer answerIn carriedStandby decodedGauge formFits loaded ofLength readIn rejectedAnswer rule
-    inTable permille commandAfter previewRefusal Preview.replyAfter chargeAfter reachedIn summed endingOf mayTeach isFull chargeEnded chargeReached
-    filledIf flagsEnded reachedBy lookUp register registersFrom rows placeRefusal readRefusal Reading′.replyAfter artte stte tte ttf fcac reduction
-    rsoc usableAt allAnswer reloadedAnswer chargeCurrent counted dischargeCurrent zeroOrWithin between currentInRange valueBetween currentAccepted
-    noSample sampleAccepted sampleObeyed sampleRested chargePut countersPut headed hostPut samplePut bufferAfter fieldBytes putAfter saveRefusal
-    savedBytes averaged shown standbyAccepted standbyObeyed
+    band leak leakRate risesUpTo weight learned restLeak drained runAccepted unlessPassed convertBytes convertNumber openBytes openNumber keptBytes
+    keptNumber afterEmptyStop afterFull afterRest afterRestWindow afterRun afterSetting afterSums afterVoltage afterWindow leakNow after gaugeAfter
+    numberOf begun gains unlessAbove afterCall afterCalls afterCommand afterKey afterWork afterWrite hostAfter startedHistory refusalOf chargeOf
+    countedCurrent qualifies reachesE1 reachesEdvf reachesFull stopsEmpty commanded commandsCleared fullIf hostObeyed initCleared openedHost stored
+    decimal decimalWithin joined line three words allDigits number ranged unsigned valueFrom placeAfter putAt Reading.fed goesOn readAs spaced
+    linesOf digitFed firstFed grown wordFed wordNumber bytesIn chargeFrom countersFrom gaugeFrom hostFrom numberIn sampleFrom acceptedAnswer
+    answerIn carriedStandby decodedGauge formFits loaded ofLength readIn rejectedAnswer lookLeaves lookNumber decidedPut keyBytes keyNumber
+    obeyedPut hostPlace rule inTable permille commandAfter previewRefusal Preview.replyAfter chargeAfter reachedIn summed endingOf mayTeach isFull
+    chargeEnded chargeReached filledIf flagsEnded reachedBy lookUp register registersFrom rows placeRefusal readRefusal Reading′.replyAfter artte
+    stte tte ttf fcac reduction rsoc usableAt reloadedAnswer chargeCurrent counted dischargeCurrent zeroOrWithin between currentInRange valueBetween
+    currentAccepted noSample sampleAccepted sampleObeyed sampleRested callBytes callNumber chargePut countersPut flagsPut headed hostPut samplePut
+    standbyPut bufferAfter fieldBytes putAfter saveRefusal savedBytes averaged shown standbyAccepted standbyObeyed
 returns c =
     record {
       registers = record {
@@ -426,10 +429,8 @@ returns c =
         pair-no-third = refl;
         pair-of-none = refl;
         pair-put = refl;
-        all-refused = refl;
-        all-14 = refl;
-        all-0 = refl;
         all-mode = refl;
+        all-tcomp = refl;
         table = refl;
         table-last = refl;
         table-out = refl;
@@ -471,6 +472,14 @@ returns c =
         put-head = refl;
         put-parts = refl;
         put-parts-charging = refl;
+        put-standby = refl;
+        put-flags = refl;
+        put-charge-54 = refl;
+        put-standby-56 = refl;
+        put-sample-54 = refl;
+        put-host-56 = refl;
+        put-flags-54 = refl;
+        put-counters-56 = refl;
         expected-1 = refl;
         expected-2 = refl;
         expected-3 = refl;
@@ -526,6 +535,15 @@ returns c =
         place-mode = refl;
         place-ar-low = refl;
         place-ar-high = refl;
+        key-0 = refl;
+        key-8 = refl;
+        key-10 = refl;
+        key-9 = refl;
+        key-done = refl;
+        key-kept = refl;
+        key-reset = refl;
+        charging-5 = refl;
+        discharging-5 = refl;
         read-0 = refl;
         read-12 = refl;
         read-13 = refl;

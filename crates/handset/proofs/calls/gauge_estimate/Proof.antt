@@ -7,7 +7,7 @@ use Rattle.estimate.specs.Estimate.{distanceAfter, estimateAfter, estimateRefus
 use Rattle.load.proofs.LoadLaws.{decoded-is}
 use Rattle.numbers.proofs.SignedLaws.{narrow}
 use Rattle.handset.proofs.EstimateLaws.{distance-keeps, estimate-keeps, estimate-rejects}
-use Rattle.handset.proofs.LookLaws.{look-leaves, look-number, misfit-leaves, misfit-number}
+use Rattle.load.proofs.LookLaws.{look-leaves, look-number, misfit-leaves, misfit-number}
 use borrow.Author.Needs.{needs}
 use Rattle.handset.proofs.calls.gauge_estimate.Statement.{statement}
 use Rattle.handset.proofs.calls.gauge_estimate.Tie as tie

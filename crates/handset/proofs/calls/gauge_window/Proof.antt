@@ -1,63 +1,23 @@
--- Bytes that are not in the form answer 14; of any other what is kept of the proved call's answer. Assumes nothing.
-use mathlib.Core.Path.{_∙_, sym}
+-- The call below, of the numbers as handed in. Assumes nothing.
 use denote.Ref.{now}
-use borrow.Author.Tests.{not-true, not-false}
 use Rattle.numbers.proofs.SignedLaws.{narrow}
-use Rattle.load.proofs.LoadLaws.{decoded-is}
-use Rattle.handset.specs.Calls.{windowCall}
-use Rattle.handset.proofs.CallLaws.{kept, misfit, window-rejects, windowed}
+use Rattle.handset.proofs.CallLaws.{windowed}
 use borrow.Author.Needs.{needs}
 use Rattle.handset.proofs.calls.gauge_window.Statement.{statement}
 use Rattle.handset.proofs.calls.gauge_window.Tie as tie
 
-form-fits-requires : tie.Need-form-fits-requires
-form-fits-requires c κs = search needs
+window-requires : tie.Need-window-requires
+window-requires c κs = search needs
 
 same-length : tie.Need-same-length
 same-length c = search needs
 
 returns : tie.Need-returns
 returns c =
-    let f = c .before in
-    let a = f .before .before .before .args in
-    misfit (now (a .saved)) (windowCall (a .current) (a .voltage) (a .temperature)) (sym (f .form-fits .ensures) ∙ not-true _ (c .if1 .taken))
-
-decoded-requires : tie.Need-decoded-requires
-decoded-requires c κs = search needs
-
-window-requires : tie.Need-window-requires
-window-requires c κs = search needs
-
-keep-requires : tie.Need-keep-requires
-keep-requires c κs = search needs
-
-same-length-2 : tie.Need-same-length-2
-same-length-2 c = search needs
-
-returns-2 : tie.Need-returns-2
-returns-2 c =
-    let k = c .before .before in
-    let w = k .before .before in
-    let d = w .before in
-    let i = d .before .before in
-    let f = i .before in
-    let s = f .before .before .before in
+    let p = c .before .before in
+    let s = p .before .before .before in
     let a = s .args in
-    let fit = sym (f .form-fits .ensures) ∙ not-false _ (i .if1 .left) in
-    kept (now (a .saved)) (windowCall (a .current) (a .voltage) (a .temperature)) (window-rejects (a .current) (a .voltage) (a .temperature))
-    fit
-    (windowed (w .window .ensures) (narrow _ (s .fits .current)) (narrow _ (s .fits .voltage)) (narrow _ (s .fits .temperature)) (d .decoded .ensures ∙ decoded-is _ fit))
-    (k .keep .ensures .0) (k .keep .ensures .1)
+    windowed (now (a .saved)) (narrow _ (s .fits .temperature)) (narrow _ (s .fits .current)) (narrow _ (s .fits .voltage)) (p .window .ensures .0) (p .window .ensures .1)
 
 pub gauge-window-spec : {M : Type 1} → statement M
-gauge-window-spec =
-    tie.close
-    (tie.spec
-    form-fits-requires
-    same-length
-    returns
-    decoded-requires
-    window-requires
-    keep-requires
-    same-length-2
-    returns-2)
+gauge-window-spec = tie.close (tie.spec window-requires same-length returns)

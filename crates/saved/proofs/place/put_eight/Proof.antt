@@ -20,11 +20,16 @@ cast-put-four-2 c = search needs
 put-four-requires-2 : tie.Need-put-four-requires-2
 put-four-requires-2 c κs = search needs
 
+same-length : tie.Need-same-length
+same-length c = search needs
+
 returns : tie.Need-returns
 returns c =
-    let p = c .before .before in
-    let a = p .before .before .args in
-    parts-put 4 4 (now (a .bytes)) _ _ (a .place) (a .value) (p .put-four .ensures) (c .put-four2 .ensures)
+    let q = c .before .before in
+    let p = q .before .before .before .before in
+    let s = p .before .before .before in
+    let a = s .args in
+    parts-put 4 4 (now (a .bytes)) _ _ (a .place) (a .value) (p .put-four .ensures) (q .put-four2 .ensures)
 
 pub put-eight-spec : {M : Type 1} → statement M
 put-eight-spec =
@@ -35,4 +40,5 @@ put-eight-spec =
     add-put-four
     cast-put-four-2
     put-four-requires-2
+    same-length
     returns)

@@ -20,13 +20,25 @@ cast-put-two-2 c = search needs
 put-two-requires-2 : tie.Need-put-two-requires-2
 put-two-requires-2 c κs = search needs
 
+same-length : tie.Need-same-length
+same-length c = search needs
+
 returns : tie.Need-returns
 returns c =
-    let p = c .before .before in
-    let a = p .before .before .args in
-    parts-put 2 2 (now (a .bytes)) _ _ (a .place) (a .value) (p .put-two .ensures) (c .put-two2 .ensures)
+    let q = c .before .before in
+    let p = q .before .before .before .before in
+    let s = p .before .before .before in
+    let a = s .args in
+    parts-put 2 2 (now (a .bytes)) _ _ (a .place) (a .value) (p .put-two .ensures) (q .put-two2 .ensures)
 
 pub put-four-spec : {M : Type 1} → statement M
 put-four-spec =
     tie.close
-    (tie.spec cast-put-two put-two-requires add-put-two cast-put-two-2 put-two-requires-2 returns)
+    (tie.spec
+    cast-put-two
+    put-two-requires
+    add-put-two
+    cast-put-two-2
+    put-two-requires-2
+    same-length
+    returns)

@@ -1,6 +1,7 @@
 -- Two stores, low byte first. Assumes nothing.
 use native.Mathlib.Omega.{arith}
 use denote.Ref.{now}
+use lib.ListN.{length-set}
 use Rattle.saved.proofs.PutLaws.{pair-put}
 use borrow.Author.Needs.{needs}
 use Rattle.saved.proofs.place.put_two.Statement.{statement}
@@ -12,14 +13,17 @@ add-next c = search needs
 cast-bytes : tie.Need-cast-bytes
 cast-bytes c = search needs
 
-element-write-bytes : tie.Need-element-write-bytes
-element-write-bytes c = search needs
+slice-write-bytes : tie.Need-slice-write-bytes
+slice-write-bytes c = search needs
 
 cast-bytes-2 : tie.Need-cast-bytes-2
 cast-bytes-2 c = search needs
 
-element-write-bytes-2 : tie.Need-element-write-bytes-2
-element-write-bytes-2 c = search needs
+slice-write-bytes-2 : tie.Need-slice-write-bytes-2
+slice-write-bytes-2 c = simp length-set (omega arith)
+
+same-length : tie.Need-same-length
+same-length c = search needs
 
 returns : tie.Need-returns
 returns c = pair-put (now (c .args .bytes)) (c .args .place) (c .args .value) (omega arith)
@@ -27,4 +31,11 @@ returns c = pair-put (now (c .args .bytes)) (c .args .place) (c .args .value) (o
 pub put-two-spec : {M : Type 1} → statement M
 put-two-spec =
     tie.close
-    (tie.spec add-next cast-bytes element-write-bytes cast-bytes-2 element-write-bytes-2 returns)
+    (tie.spec
+    add-next
+    cast-bytes
+    slice-write-bytes
+    cast-bytes-2
+    slice-write-bytes-2
+    same-length
+    returns)
