@@ -68,6 +68,7 @@ pub record HandedRows : Type 0 where
   pub key-8 : keyNumber keptCharging 0x57 ≡ 8
   pub key-10 : keyNumber keptCharging 0x56 ≡ 10
   pub key-9 : keyNumber (replicate 54 7) 0xA9 ≡ 9
+  pub key-11 : keyNumber (set (set (set keptCharging 37 0x00) 38 0x00) 39 0x01) 0x56 ≡ 11
   pub key-done : keyBytes keptCharging 0xA9
       ≡ take 11 keptCharging
       ++ (0x40 ∷ 0xDB ∷ 0x64 ∷ 0xF5 ∷ 0x3E ∷ 0x00 ∷ 0x00 ∷ 0x00

@@ -544,6 +544,7 @@ returns c =
         key-reset = refl;
         charging-5 = refl;
         discharging-5 = refl;
+        key-11 = refl;
         read-0 = refl;
         read-12 = refl;
         read-13 = refl;
