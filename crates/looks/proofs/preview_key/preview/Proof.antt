@@ -61,7 +61,9 @@ returns-3 c =
     let s = i1 .before .before .before in
     let a = s .args in
     let same = copied-all (now (a .saved)) _ _ (i1 .if1 .left) (y .copy .ensures .1) in
-    rejects (now (a .saved)) (a .key) (now (a .reply)) (now (a .command)) (sym (ff .form-fits .ensures ∙ ap (formFits newest) same) ∙ not-false _ (i2 .if2 .left)) (sym (ga .gauge-accepted .ensures ∙ ap (λ (b : List ℕ). accepted (decodedGauge b)) same) ∙ not-true _ (c .if3 .taken))
+    rejects (now (a .saved)) (a .key) (now (a .reply)) (now (a .command))
+    (sym (ff .form-fits .ensures ∙ ap (formFits newest) same) ∙ not-false _ (i2 .if2 .left))
+    (sym (ga .gauge-accepted .ensures ∙ ap (λ (b : List ℕ). accepted (decodedGauge b)) same) ∙ not-true _ (c .if3 .taken))
 
 slice-aggregate-press : tie.Need-slice-aggregate-press
 slice-aggregate-press c = search needs
@@ -70,7 +72,8 @@ press-requires : tie.Need-press-requires
 press-requires c κs = search needs
 
 -- what the tests of the copy say of the bytes
-fits : (c : tie.After-press) → let s = c .before .before .before .before .before .before .before .before .before .before .before .before .before .before in formFits newest (now (s .args .saved)) ≡ true
+fits : (c : tie.After-press) → let s = c .before .before .before .before .before .before .before .before .before .before .before .before .before .before in
+    formFits newest (now (s .args .saved)) ≡ true
 fits c =
     let i2 = c .before .before .before .before .before in
     let ff = i2 .before in
@@ -78,7 +81,8 @@ fits c =
     let same = copied-all _ _ _ (y .before .before .if1 .left) (y .copy .ensures .1) in
     sym (ff .form-fits .ensures ∙ ap (formFits newest) same) ∙ not-false _ (i2 .if2 .left)
 
-accepts : (c : tie.After-press) → let s = c .before .before .before .before .before .before .before .before .before .before .before .before .before .before in accepted (decodedGauge (now (s .args .saved))) ≡ true
+accepts : (c : tie.After-press) → let s = c .before .before .before .before .before .before .before .before .before .before .before .before .before .before in
+    accepted (decodedGauge (now (s .args .saved))) ≡ true
 accepts c =
     let i3 = c .before .before in
     let ga = i3 .before in
@@ -153,8 +157,11 @@ put-registers-requires c κs =
     let w =
     pressed (now (a .saved)) small (fits p) (accepts p) (a .key)
     (p .press .ensures .0 ∙ ap (λ (b : List ℕ). keyNumber b (a .key)) same) (p .press .ensures .1 ∙ ap (λ (b : List ℕ). keyBytes b (a .key)) same) in
-    let done = sym (w .0) ∙ i4 .if4 .left in
-    (copy-accepted (now (a .saved)) (a .key) (now (a .reply)) (now (a .command)) done small (w .1), copy-length (now (a .saved)) (a .key) (now (a .reply)) (now (a .command)) done small (w .1), i5 .if5 .left)
+    let done = sym (w .0) ∙ i4 .if4 .left in (
+      copy-accepted (now (a .saved)) (a .key) (now (a .reply)) (now (a .command)) done small (w .1),
+      copy-length (now (a .saved)) (a .key) (now (a .reply)) (now (a .command)) done small (w .1),
+      i5 .if5 .left,
+    )
 
 same-length : tie.Need-same-length
 same-length c = search needs

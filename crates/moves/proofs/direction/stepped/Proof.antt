@@ -36,7 +36,8 @@ returns-2 c =
     let i = p .before .before in
     let s = i .before .before .before .before in
     let a = s .args in
-    p .charged .ensures ∙ ap (λ (x : Bool). savedBytes (window (record { charging = x; magnitude = a .current .magnitude }) (a .voltage) (a .temperature) (decodedGauge (now (a .saved))))) (sym (i .if2 .taken))
+    p .charged .ensures
+    ∙ ap (λ (x : Bool). savedBytes (window (record { charging = x; magnitude = a .current .magnitude }) (a .voltage) (a .temperature) (decodedGauge (now (a .saved))))) (sym (i .if2 .taken))
 
 discharged-requires : tie.Need-discharged-requires
 discharged-requires c κs = search needs
@@ -50,7 +51,8 @@ returns-3 c =
     let i = p .before .before in
     let s = i .before .before .before .before in
     let a = s .args in
-    p .discharged .ensures ∙ ap (λ (x : Bool). savedBytes (window (record { charging = x; magnitude = a .current .magnitude }) (a .voltage) (a .temperature) (decodedGauge (now (a .saved))))) (sym (i .if2 .left))
+    p .discharged .ensures
+    ∙ ap (λ (x : Bool). savedBytes (window (record { charging = x; magnitude = a .current .magnitude }) (a .voltage) (a .temperature) (decodedGauge (now (a .saved))))) (sym (i .if2 .left))
 
 pub stepped-spec : {M : Type 1} → statement M
 stepped-spec =

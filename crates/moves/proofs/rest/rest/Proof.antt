@@ -57,7 +57,8 @@ returns-3 c =
     let s = ff .before .before .before in
     let a = s .args in
     refuses (now (a .saved)) (λ g. restAnswer g (a .windows) (a .t)) (rest-rejects (a .windows) (a .t)) (sym (ff .form-fits .ensures) ∙ not-false _ (i1 .if1 .left))
-    (rest-none (decodedGauge (now (a .saved))) (a .windows) (a .t) (sym (ga .gauge-accepted .ensures) ∙ not-false _ (i2 .if2 .left)) (le-ltb 0 (a .windows) (omega (arith, c .if3 .taken)))) (λ z. omega arith)
+    (rest-none (decodedGauge (now (a .saved))) (a .windows) (a .t) (sym (ga .gauge-accepted .ensures) ∙ not-false _ (i2 .if2 .left))
+    (le-ltb 0 (a .windows) (omega (arith, c .if3 .taken)))) (λ z. omega arith)
 
 same-length-4 : tie.Need-same-length-4
 same-length-4 c = search needs
@@ -72,7 +73,9 @@ returns-4 c =
     let s = ff .before .before .before in
     let a = s .args in
     refuses (now (a .saved)) (λ g. restAnswer g (a .windows) (a .t)) (rest-rejects (a .windows) (a .t)) (sym (ff .form-fits .ensures) ∙ not-false _ (i1 .if1 .left))
-    (rest-long (decodedGauge (now (a .saved))) (a .windows) (a .t) (sym (ga .gauge-accepted .ensures) ∙ not-false _ (i2 .if2 .left)) (lt-ltb 0 (a .windows) (omega (arith, i3 .if3 .left))) (lt-leb _ _ (c .if4 .taken))) (λ z. omega arith)
+    (rest-long (decodedGauge (now (a .saved))) (a .windows) (a .t) (sym (ga .gauge-accepted .ensures) ∙ not-false _ (i2 .if2 .left))
+    (lt-ltb 0 (a .windows) (omega (arith, i3 .if3 .left)))
+    (lt-leb _ _ (c .if4 .taken))) (λ z. omega arith)
 
 temperature-in-range-requires : tie.Need-temperature-in-range-requires
 temperature-in-range-requires c κs = search needs
@@ -92,7 +95,9 @@ returns-5 c =
     let s = ff .before .before .before in
     let a = s .args in
     refuses (now (a .saved)) (λ g. restAnswer g (a .windows) (a .t)) (rest-rejects (a .windows) (a .t)) (sym (ff .form-fits .ensures) ∙ not-false _ (i1 .if1 .left))
-    (rest-temperature (decodedGauge (now (a .saved))) (a .windows) (a .t) (sym (ga .gauge-accepted .ensures) ∙ not-false _ (i2 .if2 .left)) (lt-ltb 0 (a .windows) (omega (arith, i3 .if3 .left))) (le-leb _ _ (i4 .if4 .left))
+    (rest-temperature (decodedGauge (now (a .saved))) (a .windows) (a .t) (sym (ga .gauge-accepted .ensures) ∙ not-false _ (i2 .if2 .left))
+    (lt-ltb 0 (a .windows) (omega (arith, i3 .if3 .left)))
+    (le-leb _ _ (i4 .if4 .left))
     (sym (tr .temperature-in-range .ensures ∙ ap temperatureInRange (narrow _ (s .fits .t))) ∙ not-true _ (c .if5 .taken))) (λ z. omega arith)
 
 temperature-requires : tie.Need-temperature-requires
@@ -124,7 +129,9 @@ returns-6 c =
     let g = decodedGauge (now (a .saved)) in
     let e = ap (λ (y : ℕ). rest (a .windows) y g) (tm .temperature .ensures ∙ ap temperature (narrow _ (s .fits .t))) in
     moves (now (a .saved)) (λ g. restAnswer g (a .windows) (a .t)) (rest-rejects (a .windows) (a .t)) (sym (ff .form-fits .ensures) ∙ not-false _ (i1 .if1 .left))
-    (rest-done g (a .windows) (a .t) (sym (ga .gauge-accepted .ensures) ∙ not-false _ (i2 .if2 .left)) (lt-ltb 0 (a .windows) (omega (arith, i3 .if3 .left))) (le-leb _ _ (i4 .if4 .left))
+    (rest-done g (a .windows) (a .t) (sym (ga .gauge-accepted .ensures) ∙ not-false _ (i2 .if2 .left))
+    (lt-ltb 0 (a .windows) (omega (arith, i3 .if3 .left)))
+    (le-leb _ _ (i4 .if4 .left))
     (sym (tr .temperature-in-range .ensures ∙ ap temperatureInRange (narrow _ (s .fits .t))) ∙ not-false _ (i5 .if5 .left)) e) (rs .rested .ensures)
 
 pub rest-spec : {M : Type 1} → statement M

@@ -64,7 +64,9 @@ returns-3 c =
     let s = k .before in
     let a = s .args in
     at-ctrl (now (a .saved)) (a .value) (i3 .if3 .taken)
-    (pressed (now (a .saved)) (λ n. k .slice-known .given n .fits) (sym (ff .form-fits .ensures) ∙ not-false _ (i1 .if1 .left)) (sym (ga .gauge-accepted .ensures) ∙ not-false _ (i2 .if2 .left)) (a .value)
+    (pressed (now (a .saved)) (λ n. k .slice-known .given n .fits)
+    (sym (ff .form-fits .ensures) ∙ not-false _ (i1 .if1 .left)) (sym (ga .gauge-accepted .ensures) ∙ not-false _ (i2 .if2 .left))
+    (a .value)
     (pr .press .ensures .0) (pr .press .ensures .1))
 
 same-length-4 : tie.Need-same-length-4
@@ -80,7 +82,8 @@ returns-4 c =
     let s = ff .before .before .before in
     let a = s .args in
     refuses (now (a .saved)) (λ g. writeAnswer g (a .address) (a .value)) (write-rejects (a .address) (a .value)) (sym (ff .form-fits .ensures) ∙ not-false _ (i1 .if1 .left))
-    (write-beyond (decodedGauge (now (a .saved))) (a .address) (a .value) (sym (ga .gauge-accepted .ensures) ∙ not-false _ (i2 .if2 .left)) (lt-ltb 3 (a .address) (c .if4 .taken))) (λ z. omega arith)
+    (write-beyond (decodedGauge (now (a .saved))) (a .address) (a .value) (sym (ga .gauge-accepted .ensures) ∙ not-false _ (i2 .if2 .left))
+    (lt-ltb 3 (a .address) (c .if4 .taken))) (λ z. omega arith)
 
 host-place-requires : tie.Need-host-place-requires
 host-place-requires c κs = search needs
@@ -109,8 +112,10 @@ returns-5 c =
     let a = s .args in
     let g = decodedGauge (now (a .saved)) in
     moves (now (a .saved)) (λ g. writeAnswer g (a .address) (a .value)) (write-rejects (a .address) (a .value)) (sym (ff .form-fits .ensures) ∙ not-false _ (i1 .if1 .left))
-    (write-stored g (a .address) (a .value) (sym (ga .gauge-accepted .ensures) ∙ not-false _ (i2 .if2 .left)) (le-ltb 3 (a .address) (i4 .if4 .left)) (ne-eqb (a .address) 0 (i3 .if3 .left)) refl)
-    (byte-written (now (a .saved)) (λ n. k .slice-known .given n .fits) (sym (ff .form-fits .ensures) ∙ not-false _ (i1 .if1 .left)) (a .address) (a .value) (i3 .if3 .left) (i4 .if4 .left) (omega arith)
+    (write-stored g (a .address) (a .value) (sym (ga .gauge-accepted .ensures) ∙ not-false _ (i2 .if2 .left))
+    (le-ltb 3 (a .address) (i4 .if4 .left)) (ne-eqb (a .address) 0 (i3 .if3 .left)) refl)
+    (byte-written (now (a .saved)) (λ n. k .slice-known .given n .fits)
+    (sym (ff .form-fits .ensures) ∙ not-false _ (i1 .if1 .left)) (a .address) (a .value) (i3 .if3 .left) (i4 .if4 .left) (omega arith)
     (c .host-place .ensures .0))
 
 pub write-spec : {M : Type 1} → statement M
