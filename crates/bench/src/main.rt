@@ -1,5 +1,6 @@
 // The bench program: a list of windows from standard input, what the bench pack shows after each to standard output. The proved
 // filter does the work; this file and print.rt only read and write.
+#![tactic(auto)]
 mod print;
 
 ghost use Rattle.bench.specs.Print as Spec;

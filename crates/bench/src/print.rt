@@ -6,7 +6,7 @@ use bench_filter::filter::{filter_part, finish};
 use libc::STDOUT_FILENO;
 
 // The program after some bytes, how many they were, and whether their output was written.
-#[derive(Drop)]
+#[derive(Clone, Copy)]
 pub struct Printed {
     pub bench: Bench,
     pub used: usize,
@@ -14,7 +14,7 @@ pub struct Printed {
 }
 
 // The program after a part of the input, and whether there is to be another.
-#[derive(Drop)]
+#[derive(Clone, Copy)]
 pub struct Progress {
     pub bench: Bench,
     pub more: bool,

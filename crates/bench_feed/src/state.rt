@@ -4,7 +4,7 @@ use gauge::state::Gauge;
 use lines::line::Reading;
 
 // Where in its input the program is.
-#[derive(Drop)]
+#[derive(Clone, Copy)]
 pub enum Place {
     // in the first line: so many bytes of it, all as the names line has them, or 6 where it is another line
     First(u8),
@@ -14,14 +14,14 @@ pub enum Place {
     Ended,
 }
 
-#[derive(Drop)]
+#[derive(Clone, Copy)]
 pub struct Bench {
     pub gauge: Gauge,
     pub place: Place,
 }
 
 // The program after a byte, and what it prints at that byte.
-#[derive(Drop)]
+#[derive(Clone, Copy)]
 pub struct Step {
     pub bench: Bench,
     pub output: Output,

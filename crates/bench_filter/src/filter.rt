@@ -9,7 +9,7 @@ use bench_feed::state::Bench;
 use bench_output::put::{ROOM, put_output};
 
 // The program afterwards, how many bytes of the part it took, and how many it made.
-#[derive(Drop)]
+#[derive(Clone, Copy)]
 pub struct Filtered {
     pub bench: Bench,
     pub used: usize,

@@ -1,5 +1,5 @@
 // What the bench program prints at the end of a line.
-#[derive(Drop)]
+#[derive(Clone, Copy)]
 pub enum Output {
     Nothing,
     Heading,

@@ -8,7 +8,7 @@ use gauge::state::Gauge;
 use lines::line::Line;
 
 // The gauge after a line, and what is printed for it.
-#[derive(Drop)]
+#[derive(Clone, Copy)]
 pub struct Answered {
     pub gauge: Gauge,
     pub output: Output,

@@ -11,7 +11,7 @@ use grains::learning::learned;
 use grains::run::Run;
 use sample::current::Current;
 
-#[derive(Drop)]
+#[derive(Clone, Copy)]
 pub struct Charge {
     // h, grains
     pub held: u64,

@@ -5,7 +5,7 @@ ghost use Rattle.command.specs.Command as Spec;
 use refusals::{NO_COMMAND_BIT, NOT_CARRIED, UNKNOWN_KEY, WRTLMD_ZERO};
 
 // What a host sets by hand.
-#[derive(Drop)]
+#[derive(Clone, Copy)]
 pub enum Setting {
     Wrtnac,
     Done,
@@ -13,21 +13,21 @@ pub enum Setting {
 }
 
 // What puts the gauge as opened, in part or whole.
-#[derive(Drop)]
+#[derive(Clone, Copy)]
 pub enum Reset {
     Prst,
     Frst,
 }
 
 // The commands by their kinds.
-#[derive(Drop)]
+#[derive(Clone, Copy)]
 pub enum Command {
     Setting(Setting),
     Reset(Reset),
 }
 
 // What a key at CTRL means with MODE and AR: a command, or the number of its refusal.
-#[derive(Drop)]
+#[derive(Clone, Copy)]
 pub enum Decision {
     Obey(Command),
     Refused(u32),

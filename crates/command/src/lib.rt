@@ -1,2 +1,3 @@
 // Which command a key at CTRL obeys, or why it is refused.
+#![tactic(auto)]
 pub mod command;

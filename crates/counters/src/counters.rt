@@ -9,7 +9,7 @@ use sample::current::Current;
 // "stops at 4,294,967,295".
 const MOST_RESTS: u32 = 4_294_967_295;
 
-#[derive(Drop)]
+#[derive(Clone, Copy)]
 pub struct Counters {
     // rest windows since the last window with c not 0, since opening or a reset
     pub rests: u32,

@@ -8,7 +8,7 @@ use sample::current::Current;
 // "CYCT stops at 65,535".
 const MOST_CYCLES: u16 = 65_535;
 
-#[derive(Drop)]
+#[derive(Clone, Copy)]
 pub struct Cycles {
     // CYCT
     pub cyct: u16,

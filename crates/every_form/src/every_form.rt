@@ -16,10 +16,11 @@ use form::form::{
 use gauge::answer::Answer;
 use gauge::state::Gauge;
 use load::load::{decoded, in_form, rejected, unless_rejected};
+use numbers::front::put_front;
 use numbers::little::byte_at;
 
 // What bytes of a form are tested for first.
-#[derive(Drop)]
+#[derive(Clone, Copy)]
 struct Expected {
     number: u8,
     length: u16,
@@ -88,8 +89,8 @@ fn form_4_in_newest(bytes: &[u8]) -> [u8; LENGTH as usize]
     ensures { result ≡ in_newest form4 bytes.now }
 {
     let mut whole = [0u8; LENGTH as usize];
-    bytes::copy(&bytes[..LENGTH_3 as usize], &mut whole);
-    bytes::copy(
+    put_front(&bytes[..LENGTH_3 as usize], &mut whole);
+    put_front(
         &bytes[LENGTH_3 as usize..LENGTH_4 as usize],
         &mut whole[AT_CYCT as usize..],
     );
@@ -104,17 +105,17 @@ fn in_newest(bytes: &[u8], first: u8) -> [u8; LENGTH as usize]
 {
     let mut whole = [0u8; LENGTH as usize];
     if bytes.len() == LENGTH as usize {
-        bytes::copy(bytes, &mut whole);
+        put_front(bytes, &mut whole);
         return whole;
     }
     if bytes.len() == LENGTH_4 as usize {
         return form_4_in_newest(bytes);
     }
     if bytes.len() == LENGTH_3 as usize {
-        bytes::copy(bytes, &mut whole);
+        put_front(bytes, &mut whole);
         return whole;
     }
-    bytes::copy(&bytes[..LENGTH_2 as usize], &mut whole);
+    put_front(&bytes[..LENGTH_2 as usize], &mut whole);
     whole
 }
 

@@ -4,7 +4,7 @@ ghost use Rattle.flags.specs.Flags as Spec;
 
 use command::command::{Command, Reset, Setting};
 
-#[derive(Drop)]
+#[derive(Clone, Copy)]
 pub struct Flags {
     pub ci: bool,
     pub edv1: bool,

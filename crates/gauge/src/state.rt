@@ -6,7 +6,7 @@ use flags::flags::Flags;
 use host::host::Host;
 use sample::sample::Sample;
 
-#[derive(Drop)]
+#[derive(Clone, Copy)]
 pub struct Gauge {
     // the configuration bytes in force
     pub settings: Settings,

@@ -4,7 +4,7 @@ ghost use Rattle.grains.specs.Run as Spec;
 
 use crate::grains::{passes, saturating_sum};
 
-#[derive(Drop)]
+#[derive(Clone, Copy)]
 pub struct Run {
     pub vdq: bool,
     pub dcr: u64,

@@ -8,7 +8,7 @@ use configuration::configuration::opened_mode;
 use configuration::settings::Settings;
 use numbers::little::pair_of;
 
-#[derive(Drop)]
+#[derive(Clone, Copy)]
 pub struct Host {
     pub mode: u8,
     pub ar: u16,

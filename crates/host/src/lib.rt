@@ -1,2 +1,3 @@
 // The bytes that the host writes: MODE and AR.
+#![tactic(auto)]
 pub mod host;

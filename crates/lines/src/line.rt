@@ -6,7 +6,7 @@ ghost use Rattle.lines.specs.Reading as Spec;
 use crate::word::{Number, Word};
 
 // What a line is read as.
-#[derive(Drop)]
+#[derive(Clone, Copy)]
 pub enum Line {
     Numbers(i32, i32, i32),
     // not three whole numbers within the range
@@ -14,7 +14,7 @@ pub enum Line {
 }
 
 // What is known of a line after some of its bytes: the words that ended and the one that goes on.
-#[derive(Drop)]
+#[derive(Clone, Copy)]
 pub enum Reading {
     First(Word),
     Second(Word, Word),

@@ -5,7 +5,7 @@ ghost use Rattle.lines.specs.Number.{ranged};
 ghost use Rattle.lines.specs.Word as Spec;
 
 // What a word is read as.
-#[derive(Drop)]
+#[derive(Clone, Copy)]
 pub enum Number {
     Whole(i32),
     // no whole number, or one out of range
@@ -13,7 +13,7 @@ pub enum Number {
 }
 
 // What is known of a word after some of its bytes.
-#[derive(Drop)]
+#[derive(Clone, Copy)]
 pub enum Word {
     Empty,
     // a minus alone

@@ -10,6 +10,7 @@ use form::form::LENGTH;
 use load::load::{form_fits, gauge_accepted};
 use load::parts::loaded_host;
 use moves::key::press;
+use numbers::front::put_front;
 use refusals::{BUFFER_LENGTH, NONE, REJECTED};
 use registers::REGISTER_COUNT;
 
@@ -26,7 +27,7 @@ pub fn preview(saved: &[u8], key: u8, reply: &mut [u8], command: &mut u8) -> u32
         return REJECTED;
     }
     let mut copied = [0u8; SAVED_LENGTH];
-    bytes::copy(saved, &mut copied);
+    put_front(saved, &mut copied);
     if !form_fits(&copied) {
         return REJECTED;
     }

@@ -12,6 +12,7 @@ use crate::whole::put_registers;
 use form::form::LENGTH;
 use gauge::state::Gauge;
 use load::load::{decoded, form_fits, gauge_accepted};
+use numbers::front::put_front;
 use refusals::{BUFFER_LENGTH, NONE, REGISTER_RANGE, REJECTED};
 use registers::REGISTER_COUNT;
 use saved::save::save;
@@ -53,7 +54,7 @@ fn copy_registers(saved: &[u8], address: u32, part: &mut [u8])
     let end = start + part.len();
     let mut whole = [0u8; REGISTER_COUNT];
     put_registers(saved, &mut whole);
-    bytes::copy(&whole[start..end], part);
+    put_front(&whole[start..end], part);
 }
 
 // 14, 12, 13, or 0 and the registers in their place. No sum is formed that could wrap.

@@ -18,6 +18,7 @@ use form::form::LENGTH;
 use gauge::state::Gauge;
 use load::load::decoded;
 use load::parts::loaded_settings;
+use numbers::front::put_front;
 use registers::REGISTER_COUNT;
 
 // "pairs stand low byte first".
@@ -156,7 +157,7 @@ pub(crate) fn put_registers(saved: &[u8], reply: &mut [u8])
         return;
     }
     let zeros = [0u8; REGISTER_COUNT];
-    bytes::copy(&zeros, reply);
+    put_front(&zeros, reply);
     put_computed(decoded(saved), reply);
     put_copied(decoded(saved), reply);
     put_configuration(loaded_settings(saved), reply);

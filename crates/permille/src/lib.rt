@@ -1,4 +1,5 @@
 // The permille of the capacity that a rested cell holds, by its voltage.
+#![tactic(auto)]
 pub mod claim;
 mod entries;
 pub mod table;

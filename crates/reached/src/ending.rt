@@ -6,7 +6,7 @@ ghost use Rattle.reached.specs.Ending as Spec;
 use configuration::configuration::{cold_threshold, e1, edvf, s0};
 use configuration::settings::Settings;
 
-#[derive(Drop)]
+#[derive(Clone, Copy)]
 pub enum Ending {
     // no discharge, or the voltage above E1
     Above,

@@ -1,4 +1,5 @@
 // "The fourteen numbers", in the order of the request's table, and those that later requests add.
+#![tactic(auto)]
 
 // "success is 0".
 pub const NONE: u32 = 0;

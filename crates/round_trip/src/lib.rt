@@ -1,2 +1,3 @@
 // Both round trips of the saved bytes.
+#![tactic(auto)]
 pub mod round_trip;

@@ -2,7 +2,7 @@
 ghost use Rattle.std.specs.Prelude.{◌≡◌};
 ghost use Rattle.sample.specs.Current as Spec;
 
-#[derive(Drop)]
+#[derive(Clone, Copy)]
 pub struct Current {
     // above 0
     pub charging: bool,

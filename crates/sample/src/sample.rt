@@ -9,7 +9,7 @@ use crate::limits::{
 };
 use command::command::Command;
 
-#[derive(Drop)]
+#[derive(Clone, Copy)]
 pub struct Sample {
     // c by direction, CHGS, and magnitude, IAV
     pub current: Current,

@@ -12,6 +12,7 @@ use flags::flags::Flags;
 use form::form::{AT_CONFIGURATION, AT_FORM, FORM, LENGTH};
 use gauge::state::Gauge;
 use host::host::Host;
+use numbers::front::put_front;
 use refusals::{BUFFER_LENGTH, NONE, REJECTED};
 use sample::sample::Sample;
 
@@ -69,7 +70,7 @@ fn store(gauge: Gauge, buffer: &mut [u8]) -> u32
         return BUFFER_LENGTH;
     }
     let bytes = encoded(gauge);
-    bytes::copy(&bytes, buffer);
+    put_front(&bytes, buffer);
     NONE
 }
 

@@ -1,2 +1,3 @@
 // The standby current.
+#![tactic(auto)]
 pub mod standby;
