@@ -1,0 +1,6 @@
+-- The claim is a law. Assumes nothing.
+use Rattle.drive.proofs.OlderFormsLaws.{form_1_shows}
+use Rattle.drive.proofs.form_1_shows.Goals as goal
+
+pub returns : goal.returns
+returns c = form_1_shows

@@ -1,0 +1,6 @@
+-- The claim is a law. Assumes nothing.
+use Rattle.drive.proofs.OlderFormsLaws.{form_3_reads}
+use Rattle.drive.proofs.form_3_reads.Goals as goal
+
+pub returns : goal.returns
+returns c = form_3_reads

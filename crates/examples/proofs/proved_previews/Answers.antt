@@ -1,0 +1,69 @@
+-- Each row holds by computation. Assumes nothing.
+use mathlib.Core.Path.{refl}
+use Rattle.charge.specs.Charge.{charge_accepted, emptied, filled, held_moved, leaked, moved, opened_charge, run_moved, taught, without_run}
+use Rattle.charge.specs.Obeyed.{charge_obeyed, written_lmd, written_nac}
+use Rattle.command.specs.Command.{command_of, decide, decide_by, highest_command_bit}
+use Rattle.compensation.specs.Compensation.{adcgn, dcmp, dt, minutes, offset_term, rate_term}
+use Rattle.configuration.specs.Configuration.{dcomp_taken, opened_mode}
+use Rattle.configuration.specs.Settings.{settings_accepted}
+use Rattle.counters.specs.Counters.{counters_accepted, counters_moved, counters_obeyed, opened_counters}
+use Rattle.counters.specs.Cycles.{cycles_accepted, cycles_moved, cyct_after, drain_with, no_cycles}
+use Rattle.flags.specs.Byte.{flags_byte}
+use Rattle.flags.specs.Flags.{at_edv1, at_edvf, at_taught, cleared_if, flags_obeyed}
+use Rattle.gauge.specs.Accepted.{accepted}
+use Rattle.gauge.specs.Calls.{stored_at, window_answer, write_answer, write_refusal, written}
+use Rattle.gauge.specs.Obey.{decided, obeyed}
+use Rattle.gauge.specs.Opening.{open_answer, open_refusal, opened}
+use Rattle.gauge.specs.Window.{window}
+use Rattle.grains.specs.Leak.{band, leak, leak_rate, rises_up_to, weight}
+use Rattle.grains.specs.Learning.{learned}
+use Rattle.grains.specs.Run.{drained, run_accepted, unless_passed}
+use Rattle.host.specs.Host.{commanded, commands_cleared, full_if, host_obeyed, init_cleared, opened_host, stored}
+use Rattle.preview.specs.Preview as Preview
+use Rattle.preview.specs.Preview.{command_after, preview_refusal}
+use Rattle.reached.specs.ChargeAfter.{charge_after, reached_in, summed}
+use Rattle.reached.specs.Ending.{ending_of, may_teach}
+use Rattle.reached.specs.Full.{is_full}
+use Rattle.reached.specs.Reached.{charge_ended, charge_reached, filled_if, flags_ended, reached_by}
+use Rattle.registers.specs.Map.{look_up, register, registers_from, rows}
+use Rattle.registers.specs.Reading as Reading
+use Rattle.registers.specs.Reading.{place_refusal, read_refusal}
+use Rattle.registers.specs.Times.{artte, stte, tte, ttf}
+use Rattle.registers.specs.Values.{fcac, reduction, rsoc, usable_at}
+use Rattle.sample.specs.Current.{charge_current, counted, discharge_current}
+use Rattle.sample.specs.Limits.{zero_or_within}
+use Rattle.sample.specs.Range.{between, current_in_range, value_between}
+use Rattle.sample.specs.Sample.{current_accepted, no_sample, sample_accepted, sample_obeyed}
+use Rattle.standby.specs.Standby.{averaged, shown, standby_accepted, standby_obeyed}
+use Rattle.examples.proofs.proved_previews.Goals as goal
+
+pub returns : goal.returns
+unfolding charge_accepted emptied filled held_moved leaked moved opened_charge run_moved taught without_run charge_obeyed written_lmd written_nac command_of
+returns c =
+    record {
+      wrtnac = refl;
+      done = refl;
+      prst = refl;
+      frst = refl;
+      wrtlmd = refl;
+      nac_before = refl;
+      rsoc_before = refl;
+      nac_low = refl;
+      nac_high = refl;
+      rsoc_after = refl;
+      mode_cleared = refl;
+      ctrl_zero = refl;
+      ar_kept = refl;
+      lmd_low = refl;
+      lmd_rsoc = refl;
+      number_14 = refl;
+      number_8 = refl;
+      number_9 = refl;
+      number_10 = refl;
+      number_11 = refl;
+      number_13 = refl;
+      number_13_above = refl;
+      number_0 = refl;
+      command_kept = refl;
+      reply_kept = refl;
+    }

@@ -1,0 +1,11 @@
+-- Each way returns the case that its test picks. Assumes nothing.
+use Rattle.sample.specs.Current.{discharge_current}
+use Rattle.sample.proofs.current.Current.discharge_current.Goals as goal
+
+pub returns-then-self : goal.returns-then-self
+unfolding discharge_current
+returns-then-self c = simp c.if-self.true
+
+pub returns : goal.returns
+unfolding discharge_current
+returns c = simp c.if-self.false

@@ -1,0 +1,9 @@
+-- The quotient. Assumes nothing.
+use mathlib.Core.Path.{refl}
+use borrow.Author.Rules.{rules}
+use Rattle.standby.specs.Standby.{shown}
+use Rattle.standby.proofs.standby.shown.Goals as goal
+
+pub returns : goal.returns
+unfolding shown
+returns c = refl
