@@ -35,6 +35,6 @@ returns c =
     let l = length-append (decimal a.number) (a.after ∷ []) in
     let place : a.at + w.result + 1 ≡ a.at + length (decimal a.number ++ (a.after ∷ [])) = omega arith in record {
       place = place ∙ place_here 11 (decimal a.number ++ (a.after ∷ [])) a.out.now a.at h;
-      bytes = stored_behind (decimal a.number) _ a.out.now a.at _ a.after c.put_digits.ensures w.ensures.0
+      bytes = stored_behind (decimal a.number) _ a.out.now a.at _ a.after c.put_digits.ensures w.ensures.value
           ∙ put_here 11 (decimal a.number ++ (a.after ∷ [])) a.out.now a.at h;
     }
