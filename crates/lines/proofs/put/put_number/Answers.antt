@@ -6,7 +6,6 @@ use native.Mathlib.Omega.{arith}
 use lib.ListN.{length, length-append}
 use Rattle.lines.specs.Decimal.{decimal}
 use Rattle.lines.proofs.PutLaws.{stored_behind, put_here, place_here, put_nothing, place_kept}
-use borrow.Author.Rules.{rules}
 use Rattle.lines.proofs.put.put_number.Goals as goal
 
 pub returns-then-out-lt11 : goal.returns-then-out-lt11
