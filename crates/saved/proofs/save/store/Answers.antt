@@ -12,5 +12,5 @@ returns-then-buffer c =
 pub returns : goal.returns
 returns c =
     let a = c.args in
-    let p = store_done a.gauge a.buffer.now c.if-buffer.false c.encoded-bytes.ensures c.put_front.ensures.1 in
+    let p = store_done a.gauge a.buffer.now c.if-buffer.false c.encoded-bytes.ensures c.put_front.ensures in
     record { number = p.0; bytes = p.1 }
