@@ -6,13 +6,15 @@ use Prim.Native.Nat.{ℕ, ◌+◌, ◌-◌, ◌≤◌}
 use native.Mathlib.Omega.{arith}
 use lib.ListN.{drop, length, take, take-append-drop}
 use Rattle.std.proofs.lemmas.List.{drop-drop, drop_all, take-take, take_at}
+use Rattle.std.proofs.lemmas.Grind.{common_steps}
 use Rattle.std.proofs.lemmas.List.Edits.{sets-eq}
-use Rattle.std.specs.Prelude.{Option, None, Some, Result, Ok, Err, OnOk, IfSome}
+use Rattle.std.specs.Prelude.{Option, None, Some, Result, Ok, Err, OnOk, IfSome, min}
 use Rattle.std.specs.Result.{is_err}
 use Rattle.std.specs.Io.KnownBytes.{Appends}
 use Rattle.bench_feed.proofs.InputLaws.{part_then_rest}
 use Rattle.bench_feed.specs.Feed.{last_output}
 use Rattle.bench_feed.specs.Input.{fed_all, printed_at, printed_from}
+use Rattle.bench_feed.specs.Printed.{printed}
 use Rattle.bench_feed.specs.declared.state.Bench.{Bench}
 use Rattle.bench_output.specs.Output.{room, text_of}
 use Rattle.lines.proofs.PutLaws.{stored, stored_length}
@@ -134,6 +136,19 @@ pub failed_is : {P Q : Type 0} (o : Result Unit Failure) → (P → Q) → OnOk 
 failed_is (Ok u) f p = f p
 failed_is (Err x) f p = tt
 
+-- ---- a read that gave bytes
+
+clamped : (n : ℕ) (part : List ℕ) → take (min n (length part)) part ≡ take n part
+clamped n part = grind (arith, common_steps)
+
+pub read_written : {E : Type 0} (a b : Option (List ℕ)) (s : Bench) (got : Result ℕ E) (part : List ℕ) (n m : ℕ) (r : Progress) → got ≡ Ok n
+    → m ≡ min n (length part) → OnOk r.outcome ((more : List ℕ) → Written a b s (take m part ++ more) r more)
+    → OnOk r.outcome ((more : List ℕ) → (count got ≡ 0 → more ≡ []) → Written a b s (take (count got) part ++ more) r more)
+read_written a b s got part n m r e f w =
+    let bytes : take m part ≡ take (count got) part =
+    ap (λ (k : ℕ). take k part) f ∙ clamped n part ∙ sym (ap (λ (k : ℕ). take k part) (ap count e)) in
+    failed_is r.outcome (λ v more none. subst (λ (x : List ℕ). Written a b s (x ++ more) r more) bytes (v more)) w
+
 -- ---- turn by turn
 
 -- the program goes on
@@ -163,3 +178,22 @@ after_turn None j k a b c s q r e p t = tt
 after_turn (Some all) j k a b c s q r e p t =
     let u = subst (λ (x : Option (List ℕ)). Turned x k b c q r) p.1 t in
     (u.0, u.1, after_written a b c s all q p.0 r u.0 e p.2 u.2)
+
+last_text : (a b c : Option (List ℕ)) (s : Bench) (all : List ℕ) (q : Bench) (middle : List ℕ) (r : Progress) (last : List ℕ) → r.more ≡ false
+    → Written a b s all (going q) middle → Written b c q middle r last → Appends a c (printed_from s all)
+last_text a b c s all q middle r last e v w =
+    let text : v.text ++ w.text ≡ printed_from s all =
+    ap (λ (x : List ℕ). v.text ++ x) (sym (append-nil w.text))
+    ∙ sym (ap (λ (t : Bool). v.text ++ (w.text ++ cond t (printed_from r.bench last) [])) e)
+    ∙ ap (λ (x : List ℕ). v.text ++ x) w.whole
+    ∙ v.whole in
+    appends_is a c (v.text ++ w.text) (printed_from s all) text (appends_both a b c v.text w.text v.appended w.appended)
+
+-- the program goes on no more, and the input is printed
+pub last_turn : (i j k a b c : Option (List ℕ)) (s q : Bench) (r : Progress) → r.more ≡ false
+    → Turned i j a b s (going q) → Turned j k b c q r → ((input : List ℕ) → printed_from s input ≡ printed input)
+    → IfSome i (λ all. Appends a c (printed all))
+last_turn None j k a b c s q r e p t h = tt
+last_turn (Some all) j k a b c s q r e p t h =
+    let u = subst (λ (x : Option (List ℕ)). Turned x k b c q r) p.1 t in
+    appends_is a c (printed_from s all) (printed all) (h all) (last_text a b c s all q p.0 r u.0 e p.2 u.2)
