@@ -2,7 +2,7 @@
 import re
 import sys
 
-from definitions_folder import ROOT, ROWS, crates, laid
+from definitions_folder import PRELUDE, ROOT, ROWS, crates, laid
 
 EDITS = ROOT / "tools" / "pins.edits"
 
@@ -12,7 +12,7 @@ OTHER = {
     "leb": ["ltb"], "ltb": ["leb"], "eqb": ["leb"], "le_z": ["lt_z"], "lt_z": ["le_z"], "min": ["max"], "max": ["min"], "+": ["-"], "-": ["+"],
     "*": ["+"], "/": ["%"], "%": ["/"], "&&": ["||"], "||": ["&&"], "true": ["false"], "false": ["true"], "not": [""], "+ℤ": ["-ℤ"], "-ℤ": ["+ℤ"],
 }
-HOME = "Rattle.std.specs.Prelude"
+HOME = {"le_z": "Rattle.std.specs.Int.Signed", "lt_z": "Rattle.std.specs.Int.Signed"}
 IMPORTED = ["leb", "ltb", "le_z", "lt_z", "min", "max", "+", "-", "/", "%", "&&", "||", "true", "false", "+ℤ", "-ℤ"]
 
 
@@ -196,10 +196,10 @@ def imported(text):
     """The text with the names that a wrong definition needs among its `use` lines."""
     body = re.sub(r"^use .*$", "", re.sub(r"--[^\n]*", "", text), flags=re.M)
     for name in IMPORTED:
-        spelled = name if name[0].isalpha() else f"◌{name}◌"
+        spelled, home = name if name[0].isalpha() else f"◌{name}◌", HOME.get(name, PRELUDE)
         if re.search(rf"(?<![^\s(]){re.escape(name)}(?![^\s);])", body):
-            if not re.search(rf"^use {re.escape(HOME)}\.\{{[^}}]*(?<![^\s,{{]){re.escape(spelled)}(?![^\s,}}])", text, re.M):
-                text = re.sub(r"^use ", f"use {HOME}.{{{spelled}}}\nuse ", text, count=1, flags=re.M)
+            if not re.search(rf"^use {re.escape(home)}\.\{{[^}}]*(?<![^\s,{{]){re.escape(spelled)}(?![^\s,}}])", text, re.M):
+                text = re.sub(r"^use ", f"use {home}.{{{spelled}}}\nuse ", text, count=1, flags=re.M)
     return text
 
 
