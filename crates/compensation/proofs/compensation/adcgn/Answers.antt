@@ -13,7 +13,7 @@ aged c = aged_within (omega arith) (omega arith) (omega arith)
 
 within : (c : After-dcgn) →
     c.dcgn.result * (32 + c.tcgn.result * (c.args.cyct / 16) * c.gaf.result) ≤ 31 * 380_867
-within c = product_within 31 380_867 (omega arith) (aged c)
+within c = product_within 31 380_867 (omega arith) (aged_within (omega arith) (omega arith) (omega arith))
 
 pub overflow_mul-aged : goal.overflow_mul-aged
 overflow_mul-aged c =
