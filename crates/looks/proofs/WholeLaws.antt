@@ -136,7 +136,7 @@ bytes_stored g =
 
 -- the zeros that are copied over the reply
 pub zeros_stored : (reply after : List ℕ) → length reply ≡ register_count
-    → after ≡ take (length zeros) zeros ++ drop (length zeros) reply → after ≡ zeros
+    → after ≡ zeros ++ drop (length zeros) reply → after ≡ zeros
 zeros_stored reply after l e = copied_all zeros reply after (sym l) e
 
 pub zeros_long : {b : List ℕ} → b ≡ zeros → length b ≡ register_count

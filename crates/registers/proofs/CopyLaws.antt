@@ -6,7 +6,7 @@ use lib.ListN.{drop, length, take}
 use lib.Seq.{drop-length, take-length}
 
 pub copied_all : (source part after : List ℕ) → length source ≡ length part
-    → after ≡ take (length source) source ++ drop (length source) part → after ≡ source
+    → after ≡ source ++ drop (length source) part → after ≡ source
 copied_all source part after l e =
     e
     ∙ ap (λ (s : List ℕ). s ++ drop (length source) part) (take-length source)

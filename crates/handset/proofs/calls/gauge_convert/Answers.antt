@@ -6,4 +6,5 @@ use Rattle.handset.proofs.calls.gauge_convert.Goals as goal
 pub returns : goal.returns
 returns c =
     let a = c.args in
-    converts a.old.now a.saved.now c.load-answer.ensures c.keep.ensures.number c.keep.ensures.bytes
+    let p = converts a.old.now a.saved.now c.load-answer.ensures c.keep.ensures.number c.keep.ensures.bytes in
+    record { number = p.0; bytes = p.1 }

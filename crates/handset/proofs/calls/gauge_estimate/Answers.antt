@@ -26,7 +26,7 @@ returns c =
     let g = c.decoded-gauge.result in
     let fit = sym c.form_fits.ensures ∙ not-false _ c.if-not-form_fits.false-raw in
     let held = c.decoded-gauge.ensures ∙ decoded_is _ fit in
-    let v = narrow _ c.ranges.voltage in (
+    let p = let v = narrow _ c.ranges.voltage in (
       look_number_lem a.saved.now fit held (estimate_rejects a.voltage) (c.estimate.ensures.number ∙ ap (estimate_refusal g) v),
       (
         look_leaves_lem a.saved.now fit held (estimate_keeps a.voltage a.estimate.now)
@@ -34,4 +34,5 @@ returns c =
         look_leaves_lem a.saved.now fit held (distance_keeps a.voltage a.distance.now)
             (c.estimate.ensures.estimate.1 ∙ ap (λ (z : ℤ). distance_after g z a.distance.now) v),
       ),
-    )
+    ) in
+    record { number = p.0; estimate = p.1.0; distance = p.1.1 }

@@ -6,4 +6,5 @@ use Rattle.handset.proofs.calls.gauge_open.Goals as goal
 pub returns : goal.returns
 returns c =
     let a = c.args in
-    opens a.configuration.now a.saved.now o.«open».ensures c.keep.ensures.number c.keep.ensures.bytes
+    let p = opens a.configuration.now a.saved.now o.«open».ensures c.keep.ensures.number c.keep.ensures.bytes in
+    record { number = p.0; bytes = p.1 }

@@ -4,4 +4,4 @@ use borrow.Author.Rules.{rules}
 use Rattle.load.proofs.load.rejected.Goals as goal
 
 pub returns : goal.returns
-returns c = rejected_is c.«open».ensures
+returns c = rejected_is c.open-refused.ensures

@@ -10,4 +10,4 @@ pair_of-requires c = tt
 pub returns : goal.returns
 returns c =
     c.pair_of.ensures
-    ∙ bytes_shown c.configuration_byte.ensures c.configuration_byte-2.ensures c.configuration_byte.type-inv c.configuration_byte-2.type-inv
+    ∙ bytes_shown c.configuration_byte.ensures c.configuration_byte-2.ensures c.configuration_byte.type_inv c.configuration_byte-2.type_inv

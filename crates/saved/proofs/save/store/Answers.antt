@@ -6,9 +6,11 @@ use Rattle.saved.proofs.save.store.Goals as goal
 pub returns-then-buffer : goal.returns-then-buffer
 returns-then-buffer c =
     let a = c.args in
-    store_refused a.gauge a.buffer.now c.if-buffer.true
+    let p = store_refused a.gauge a.buffer.now c.if-buffer.true in
+    record { number = p.0; bytes = p.1 }
 
 pub returns : goal.returns
 returns c =
     let a = c.args in
-    store_done a.gauge a.buffer.now c.if-buffer.false c.encoded-bytes.ensures c.put_front.ensures.1
+    let p = store_done a.gauge a.buffer.now c.if-buffer.false c.encoded-bytes.ensures c.put_front.ensures in
+    record { number = p.0; bytes = p.1 }
