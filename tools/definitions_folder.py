@@ -1,5 +1,6 @@
 """All definitions of the crates in one folder: with the structs and enums that they speak of, without functions and proofs, and every row a theorem by
 computation. For tools/pins."""
+import functools
 import pathlib
 import re
 import shutil
@@ -13,13 +14,10 @@ STAGES = ["first", "later"]
 # what the bench program's shell promises: no definition of it computes
 WITHOUT = ["bench", "bench_filter"]
 
-SAME_LISTS = "Rattle·pinned·specs.specs.SameLists"
-SAME_LISTS_TEXT = """use mathlib.Core.Bool.{Bool, true, false, _&&_}
-use mathlib.Core.List.{List, [], _∷_}
-use Prim.Native.Nat.{ℕ}
-use lib.Dec.{eqb}
-use lib.IntN.{ℤ}
-use lib.Signed.{leZ}
+PRELUDE = "Rattle.std.specs.Prelude"
+SAME_LISTS = "Rattle.pinned.specs.SameLists"
+SAME_LISTS_TEXT = """use Rattle.std.specs.Prelude.{Bool, true, false, ◌&&◌, List, [], ◌∷◌, ℕ, eqb, ℤ}
+use Rattle.std.specs.Int.Signed.{le_z}
 
 abbrev pub same : {A : Type 0} → (A → A → Bool) → List A → List A → Bool
 same test [] [] = true
@@ -31,13 +29,14 @@ abbrev pub numbers : List ℕ → List ℕ → Bool
 numbers xs ys = same eqb xs ys
 
 abbrev pub integers : List ℤ → List ℤ → Bool
-integers xs ys = same (λ x y. leZ x y && leZ y x) xs ys
+integers xs ys = same (λ x y. le_z x y && le_z y x) xs ys
 """
 
 
+@functools.lru_cache(maxsize=None)
 def crates():
     """The crates with definitions, those below first."""
-    names = [line.split(":")[0] for line in (ROOT / "crates.txt").read_text().splitlines() if line and not line.startswith("#")]
+    names = [re.split("[ :]", line)[0] for line in (ROOT / "crates.txt").read_text().splitlines() if line and not line.startswith("#")]
     return [name for name in names if name not in WITHOUT and (ROOT / "crates" / name / "specs").is_dir()]
 
 
@@ -46,11 +45,17 @@ def types_of(source):
     return [m.group(0) for m in re.finditer(r"^(?:pub )?(?:struct|enum) \w+ \{.*?^\}\n|^pub type [^\n]*;\n", source, re.S | re.M)]
 
 
+def imports(source):
+    """What a file of code imports: a path and a name."""
+    for path, several, name in re.findall(r"^use ([\w:]+)::(?:\{([^}]*)\}|(\w+));", source, re.M):
+        yield from ((path, one) for one in re.findall(r"\w+", several or name))
+
+
 def named_in(body, crate, source):
     """The items that a file's types name: types of other files, and constants."""
     items = []
-    for path, name in re.findall(r"^use ([\w:]+)::([A-Z][a-z]\w*);", source, re.M):
-        if re.search(rf"\b{name}\b", body):
+    for path, name in imports(source):
+        if re.match(r"[A-Z][a-z]\w*$", name) and re.search(rf"\b{name}\b", body):
             path = crate + "::" + path[len("crate::"):] if path.startswith("crate::") else path
             items.append(f"use crate::{path}::{name};\n")
     for name in sorted(set(re.findall(r"\b[A-Z][A-Z_]+\b", re.sub(r"//[^\n]*", "", body)))):
@@ -76,15 +81,16 @@ def lay_types(crate, folder):
 def renamed(match):
     """A module of a crate, in the one folder."""
     crate, module = match.group(1), match.group(2)
+    if crate not in crates():
+        return match.group(0)
     if module.startswith("declared."):
-        return f"Rattle·pinned·specs.specs.declared.{crate}.{module[len('declared.'):]}"
-    return f"Rattle·pinned·specs.specs.{crate}.{module}"
+        return f"Rattle.pinned.specs.declared.{crate}.{module[len('declared.'):]}"
+    return f"Rattle.pinned.specs.{crate}.{module}"
 
 
 def laid(text):
     """A file of definitions in the one folder, where every definition computes."""
-    text = re.sub(r"Rattle·(\w+)·specs\.specs\.(\S+)", renamed, text)
-    text = re.sub(r"Rattle·((?!pinned·)\w+)\.specs\.(\S+)", renamed, text)
+    text = re.sub(r"Rattle\.(\w+)\.specs\.(\S+)", renamed, text)
     text = re.sub(r"^unfoldable pub use ", "pub use ", text, flags=re.M)
     return re.sub(r"^unfoldable ", "abbrev ", text, flags=re.M)
 
@@ -97,15 +103,15 @@ def as_theorems(text, wanted):
     if not wanted:
         return text[: found.start()]
     rows = re.findall(r"^  pub ([^\s:]+) : (.*?)(?=^  (?:pub|--)|\Z)", found.group(1), re.S | re.M)
-    theorems = "\n".join(f"row-{name} : {by_test(claim.strip())}\nrow-{name} = refl\n" for name, claim in rows)
-    head = text[: found.start()].replace("use mathlib.Core.Path.{_≡_}", "use mathlib.Core.Path.{_≡_, refl}")
-    return re.sub(r"^use ", f"use mathlib.Core.Bool as Answer\nuse {SAME_LISTS} as Lists\nuse ", head, count=1, flags=re.M) + theorems
+    theorems = "\n".join(f"row_{name} : {by_test(claim.strip())}\nrow_{name} = refl\n" for name, claim in rows)
+    imports = f"use {PRELUDE}.{{refl}}\nuse {PRELUDE} as Answer\nuse {SAME_LISTS} as Lists\nuse "
+    return re.sub(r"^use ", imports, text[: found.start()], count=1, flags=re.M) + theorems
 
 
 def by_test(claim):
     """A row whose answer is a list, as a test: that two long lists differ is found at once, and is not printed."""
     asked, answer = re.split(r"\s+≡ ", claim, maxsplit=1)
-    if answer.startswith("record") or not re.search(r"∷|^\[\]$|^\w+(?:Numbers|Output|Saved)$", answer):
+    if answer.startswith("record") or not re.search(r"∷|^\[\]$|^\w+_(?:numbers|output|saved)$", answer):
         return claim
     kind = "integers" if re.search(r"pos|negsuc", answer) else "numbers"
     return f"Lists.{kind} ({asked}) ({answer}) ≡ Answer.true"

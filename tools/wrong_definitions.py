@@ -2,21 +2,18 @@
 import re
 import sys
 
-from definitions_folder import ROOT, ROWS, crates, laid
+from definitions_folder import PRELUDE, ROOT, ROWS, crates, laid
 
 EDITS = ROOT / "tools" / "pins.edits"
 
 TOKEN = re.compile(r"--[^\n]*|[(){};,]|[^\s(){};,]+")
 NUMERAL = re.compile(r"0x[0-9A-Fa-f_]+$|[0-9][0-9_]*$")
 OTHER = {
-    "leb": ["ltb"], "ltb": ["leb"], "eqb": ["leb"], "leZ": ["ltZ"], "ltZ": ["leZ"], "min": ["max"], "max": ["min"], "+": ["-"], "-": ["+"],
+    "leb": ["ltb"], "ltb": ["leb"], "eqb": ["leb"], "le_z": ["lt_z"], "lt_z": ["le_z"], "min": ["max"], "max": ["min"], "+": ["-"], "-": ["+"],
     "*": ["+"], "/": ["%"], "%": ["/"], "&&": ["||"], "||": ["&&"], "true": ["false"], "false": ["true"], "not": [""], "+ℤ": ["-ℤ"], "-ℤ": ["+ℤ"],
 }
-HOME = {
-    "leb": "lib.Dec", "ltb": "lib.Dec", "leZ": "lib.Signed", "ltZ": "lib.Signed", "min": "Prim.Native.Nat", "max": "Prim.Native.Nat", "+": "Prim.Native.Nat",
-    "-": "Prim.Native.Nat", "/": "Prim.Native.Nat", "%": "Prim.Native.Nat", "&&": "mathlib.Core.Bool", "||": "mathlib.Core.Bool",
-    "true": "mathlib.Core.Bool", "false": "mathlib.Core.Bool", "+ℤ": "lib.IntN", "-ℤ": "lib.IntN",
-}
+HOME = {"le_z": "Rattle.std.specs.Int.Signed", "lt_z": "Rattle.std.specs.Int.Signed"}
+IMPORTED = ["leb", "ltb", "le_z", "lt_z", "min", "max", "+", "-", "/", "%", "&&", "||", "true", "false", "+ℤ", "-ℤ"]
 
 
 def definitions(text):
@@ -43,14 +40,15 @@ def tokens(text, begin, end):
 
 
 def argument(found, at):
-    """Where the argument that begins at a token ends: a token, or all between parentheses."""
+    """Where the argument that begins at a token ends: a token, or all between parentheses and the fields that are taken of it."""
     if at >= len(found) or found[at][0] in ");},":
         return None
     depth = 0
     for k in range(at, len(found)):
         depth += {"(": 1, ")": -1, "{": 1, "}": -1}.get(found[k][0], 0)
         if depth == 0:
-            return k + 1
+            of_it = k + 1 < len(found) and found[k + 1][0].startswith(".") and found[k + 1][1] == found[k][2]
+            return k + 2 if of_it else k + 1
         if depth < 0:
             return None
     return None
@@ -96,7 +94,7 @@ def compares_with_zero(found, at):
 def arguments(text, found):
     """The arms of a choice and the arguments of a comparison, exchanged."""
     for at, (token, _, _) in enumerate(found):
-        skip = {"cond": 1, "leb": 0, "ltb": 0, "leZ": 0, "ltZ": 0, "orElse": 0}.get(token)
+        skip = {"cond": 1, "leb": 0, "ltb": 0, "le_z": 0, "lt_z": 0, "or_else": 0}.get(token)
         if skip is None:
             continue
         places, k = [], at + 1
@@ -182,21 +180,24 @@ def siblings(known, holders, field):
 
 
 def projections(text, found, known):
-    """Another field of the same record."""
-    for at, (token, begin, end) in enumerate(found):
-        if token.startswith(".") and len(token) > 1:
-            before = found[at - 1][0] if at else ""
-            holders = {fields[before[1:]] for fields in known.values() if before[1:] in fields} if before.startswith(".") else set()
-            for other in siblings(known, holders, token[1:]):
-                yield text[:begin] + "." + other + text[end:]
+    """Another field of the same record, in `x.first.second` or, after a parenthesis, in `.first.second`."""
+    for token, begin, _ in found:
+        if "." not in token or token[0].isupper() or NUMERAL.match(token):
+            continue
+        names, at = token.split("."), begin
+        for before, name in zip(["", *names], names):
+            holders = {fields[before] for fields in known.values() if before in fields} if before and at > begin + len(names[0]) + 1 else set()
+            for other in siblings(known, holders, name) if at > begin else []:
+                yield text[:at] + other + text[at + len(name):]
+            at += len(name) + 1
 
 
 def imported(text):
-    """The text with the name that a wrong definition needs among its `use` lines."""
-    body = re.sub(r"--[^\n]*", "", text)
-    for name, home in HOME.items():
-        spelled = name if name.isalpha() else f"_{name}_"
-        if re.search(rf"(?<![^\s(]){re.escape(name)}(?![^\s);])", re.sub(r"^use .*$", "", body, flags=re.M)):
+    """The text with the names that a wrong definition needs among its `use` lines."""
+    body = re.sub(r"^use .*$", "", re.sub(r"--[^\n]*", "", text), flags=re.M)
+    for name in IMPORTED:
+        spelled, home = name if name[0].isalpha() else f"◌{name}◌", HOME.get(name, PRELUDE)
+        if re.search(rf"(?<![^\s(]){re.escape(name)}(?![^\s);])", body):
             if not re.search(rf"^use {re.escape(home)}\.\{{[^}}]*(?<![^\s,{{]){re.escape(spelled)}(?![^\s,}}])", text, re.M):
                 text = re.sub(r"^use ", f"use {home}.{{{spelled}}}\nuse ", text, count=1, flags=re.M)
     return text

@@ -164,7 +164,7 @@ fn worked_out(kind: &str, start: &[u8], calls: &[Call]) -> Vec<i64> {
     let all = registers(trace.saved());
     let bytes = match kind {
         "registers_of" => all,
-        "saved_of" | "bytesOf" | "converted_of" => trace.saved().to_vec(),
+        "saved_of" | "bytes_of" | "converted_of" => trace.saved().to_vec(),
         "flags_and_mode" => vec![all[0x0A], all[0x01]],
         "numbers_of" | "refusals_of" | "called_of" => return numbers,
         "charge_of" => {
@@ -205,7 +205,7 @@ fn every_row_is_what_this_implementation_gives() {
         for row in rows(text) {
             let start: Vec<u8> = numbers(&starts[&row.start]).into_iter().map(|number| number as u8).collect();
             let list = match row.kind.as_str() {
-                "printed" | "fed_of" | "partsOf" => bench::output(&start).into_iter().map(i64::from).collect(),
+                "printed" | "fed_of" | "parts_of" => bench::output(&start).into_iter().map(i64::from).collect(),
                 kind => worked_out(kind, &start, &script(&scripts[&row.script])),
             };
             held += 1;

@@ -1,63 +1,44 @@
 -- Which bytes the program has been fed by a read. Assumes nothing.
-use mathlib.Core.Bool.{Bool, true, false, true≢false, false≢true}
+use mathlib.Core.Bool.{Bool, true, false, false≢true}
 use mathlib.Core.List.{List}
 use mathlib.Core.Path.{◌≡◌, refl, sym, ap, ◌∙◌, subst}
-use Prim.Native.Nat.{ℕ, zero, suc, ◌<◌}
+use Prim.Native.Nat.{ℕ, ◌<◌}
 use native.Mathlib.Omega.{arith}
-use lib.Dec.{ltb→lt, lt→ltb}
-use lib.IntN.{ℤ, pos, negsuc}
 use lib.ListN.{length, length-take, take}
-use lib.Signed.{lt_z, ◌<ℤ◌}
-use mir.Facts.{to_z-of_z}
-use mir.Syntax.{w64}
-use mir.Val.{SFits, of_z, to_z}
+use Rattle.std.specs.Prelude.{Result, Ok}
 use Rattle.bench_feed.specs.declared.state.Bench.{Bench}
-use Rattle.io.specs.Counts.{clamp_len}
-use Rattle.bench.specs.Print.{IsProgress, IsRead, IsTurn}
+use Rattle.bench.specs.Print.{IsProgress, IsRead, IsTurn, count}
+use Rattle.bench.specs.declared.print.Failure.{Failure}
 use Rattle.bench.specs.declared.print.Progress.{Progress}
 use Rattle.bench.proofs.PrintLaws.{begins, stopped}
 
--- ---- a number of bytes
-
-positive : (z : ℤ) → lt_z z (pos 0) ≡ false → (of_z w64 z ≡ 0 → ⊥) → pos 0 <ℤ z
-positive (pos zero) e f = absurd (f refl)
-positive (pos (suc a)) e f = record { lt = lt→ltb 0 (suc a) (omega arith) }
-positive (negsuc a) e f = absurd (true≢false e)
-
-bytes_of : (z : ℤ) (n : ℕ) → pos 0 <ℤ z → 0 < n → 0 < clamp_len z n
-bytes_of (pos a) n h some = let k = ltb→lt 0 a h.lt in omega arith
-bytes_of (negsuc a) n h some = absurd h.lt
-
 -- ---- a read
 
-module _ (s : Bench) (z : ℤ) (part : List ℕ) where
+module _ {E : Type 0} (s : Bench) (got : Result ℕ E) (part : List ℕ) where
   -- it failed, or the input has ended
-  pub none_read : IsRead s z part (record { bench = s; more = false })
-  none_read = record { printed = stopped s _ s 0 (begins s _); some = λ e. absurd (false≢true e) }
+  pub none_read : (o : Result Unit Failure) → IsRead s got part (record { bench = s; more = false; outcome = o })
+  none_read o = record { printed = stopped s _ s 0 (begins s _) o; some = λ e. absurd (false≢true e) }
 
   -- it gave a part, which is printed
-  pub part_read : SFits w64 z → lt_z (to_z w64 (of_z w64 z)) (pos 0) ≡ false → (of_z w64 z ≡ 0 → ⊥)
-      → (n : ℕ) → n ≡ clamp_len (to_z w64 (of_z w64 z)) (length part)
-      → (r : Progress) → IsProgress s (take n part) r → IsRead s z part r
-  part_read fits e f n c r p =
-      let same = to_z-of_z fits in
-      let read : n ≡ clamp_len z (length part) = c ∙ ap (λ (y : ℤ). clamp_len y (length part)) same in
+  pub part_read : (n : ℕ) → got ≡ Ok n → (n ≡ 0 → ⊥) → (r : Progress) → IsProgress s (take n part) r → IsRead s got part r
+  part_read n e f r p =
+      let c : n ≡ count got = sym (ap count e) in
       record {
-        printed = subst (λ (k : ℕ). IsProgress s (take k part) r) read p;
-        some = λ g. positive z (subst (λ (y : ℤ). lt_z y (pos 0) ≡ false) same e) f;
+        printed = subst (λ (k : ℕ). IsProgress s (take k part) r) c p;
+        some = λ g. omega arith;
       }
 
 -- ---- a turn
 
-pub turned : (s : Bench) (z : ℤ) (part : List ℕ) (r : Progress) → 0 < length part → IsRead s z part r → IsTurn s r
-turned s z part r h p = go r.more refl
+pub turned : {E : Type 0} (s : Bench) (got : Result ℕ E) (part : List ℕ) (r : Progress) → 0 < length part → IsRead s got part r → IsTurn s r
+turned s got part r h p = go r.more refl
   where
     bytes : List ℕ
-    bytes = take (clamp_len z (length part)) part
+    bytes = take (count got) part
 
     go : (t : Bool) → r.more ≡ t → IsTurn s r
     go true e =
-        let k = bytes_of z (length part) (p.some e) h in
+        let k = p.some e in
         record {
           bytes = bytes;
           bench = p.printed.whole e;

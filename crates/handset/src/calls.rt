@@ -1,6 +1,5 @@
-// The calls from C, whose prototypes are in include/gauge.h: a slice is a pointer and a length there, a lent number a pointer. 14 is tested first,
-// success is 0, and a refusal changes no byte of any buffer. Calls that move the gauge and calls that look at it work where the bytes are; opening and
-// converting make a gauge value, which is saved.
+// The calls that crates/handset_c hands to C, on the saved bytes. 14 is tested first, success is 0, and a refusal changes no byte of any buffer. Calls
+// that move the gauge and calls that look at it work where the bytes are; opening and converting make a gauge value, which is saved.
 ghost use Rattle.std.specs.Prelude.{◌≡◌, length};
 ghost use Rattle.handset.specs.Calls as Spec;
 
@@ -16,8 +15,7 @@ use moves::write::write;
 use refusals::REJECTED;
 
 // Refuses 1, 2, 13.
-#[unsafe(no_mangle)]
-pub extern "C" fn gauge_open(configuration: &[u8], saved: &mut [u8]) -> u32
+pub fn gauge_open(configuration: &[u8], saved: &mut [u8]) -> u32
     ensures number { result ≡ Spec.open_number configuration.now (length saved.old) }
     ensures bytes { saved.new ≡ Spec.open_bytes configuration.now saved.old }
 {
@@ -26,8 +24,7 @@ pub extern "C" fn gauge_open(configuration: &[u8], saved: &mut [u8]) -> u32
 }
 
 // Bytes of any form in, the newest out. Refuses 14, 13.
-#[unsafe(no_mangle)]
-pub extern "C" fn gauge_convert(old: &[u8], saved: &mut [u8]) -> u32
+pub fn gauge_convert(old: &[u8], saved: &mut [u8]) -> u32
     ensures number { result ≡ Spec.convert_number old.now (length saved.old) }
     ensures bytes { saved.new ≡ Spec.convert_bytes old.now saved.old }
 {
@@ -36,13 +33,7 @@ pub extern "C" fn gauge_convert(old: &[u8], saved: &mut [u8]) -> u32
 }
 
 // Refuses 14, 3, 4, 5.
-#[unsafe(no_mangle)]
-pub extern "C" fn gauge_window(
-    saved: &mut [u8],
-    current: i32,
-    voltage: i32,
-    temperature: i32,
-) -> u32
+pub fn gauge_window(saved: &mut [u8], current: i32, voltage: i32, temperature: i32) -> u32
     ensures number { result ≡ Spec.call_number saved.old (Spec.window_call current voltage temperature) }
     ensures bytes { saved.new ≡ Spec.call_bytes saved.old (Spec.window_call current voltage temperature) }
 {
@@ -50,8 +41,7 @@ pub extern "C" fn gauge_window(
 }
 
 // Refuses 14, 6, 5.
-#[unsafe(no_mangle)]
-pub extern "C" fn gauge_rest(saved: &mut [u8], windows: u32, temperature: i32) -> u32
+pub fn gauge_rest(saved: &mut [u8], windows: u32, temperature: i32) -> u32
     ensures number { result ≡ Spec.call_number saved.old (Spec.rest_call windows temperature) }
     ensures bytes { saved.new ≡ Spec.call_bytes saved.old (Spec.rest_call windows temperature) }
 {
@@ -59,8 +49,7 @@ pub extern "C" fn gauge_rest(saved: &mut [u8], windows: u32, temperature: i32) -
 }
 
 // Refuses 14, 7 to 11.
-#[unsafe(no_mangle)]
-pub extern "C" fn gauge_write(saved: &mut [u8], address: u32, value: u8) -> u32
+pub fn gauge_write(saved: &mut [u8], address: u32, value: u8) -> u32
     ensures number { result ≡ Spec.call_number saved.old (Spec.write_call address value) }
     ensures bytes { saved.new ≡ Spec.call_bytes saved.old (Spec.write_call address value) }
 {
@@ -68,14 +57,7 @@ pub extern "C" fn gauge_write(saved: &mut [u8], address: u32, value: u8) -> u32
 }
 
 // Refuses 14, 12, 13.
-#[unsafe(no_mangle)]
-pub extern "C" fn gauge_read(
-    saved: &[u8],
-    address: u32,
-    count: u32,
-    reply: &mut [u8],
-    place: u32,
-) -> u32
+pub fn gauge_read(saved: &[u8], address: u32, count: u32, reply: &mut [u8], place: u32) -> u32
     ensures number { result ≡ Spec.read_number saved.now address count place (length reply.old) }
     ensures bytes { reply.new ≡ Spec.read_reply saved.now address count place reply.old }
 {
@@ -83,8 +65,7 @@ pub extern "C" fn gauge_read(
 }
 
 // "the write done on a copy and then read". Refuses 14, 8 to 11, 13.
-#[unsafe(no_mangle)]
-pub extern "C" fn gauge_preview(saved: &[u8], key: u8, reply: &mut [u8], command: &mut u8) -> u32
+pub fn gauge_preview(saved: &[u8], key: u8, reply: &mut [u8], command: &mut u8) -> u32
     ensures number { result ≡ Spec.preview_number saved.now key (length reply.old) }
     ensures bytes { reply.new ≡ Spec.preview_reply saved.now key reply.old }
     ensures command { command.new ≡ Spec.preview_command saved.now key (length reply.old) command.old }
@@ -93,13 +74,7 @@ pub extern "C" fn gauge_preview(saved: &[u8], key: u8, reply: &mut [u8], command
 }
 
 // "Charge from a rested cell". Refuses 14, 15, 16.
-#[unsafe(no_mangle)]
-pub extern "C" fn gauge_estimate(
-    saved: &[u8],
-    voltage: i32,
-    estimate: &mut u16,
-    distance: &mut i32,
-) -> u32
+pub fn gauge_estimate(saved: &[u8], voltage: i32, estimate: &mut u16, distance: &mut i32) -> u32
     ensures number { result ≡ Spec.estimate_number saved.now voltage }
     ensures estimate { estimate.new ≡ Spec.estimate_counts saved.now voltage estimate.old }
     ensures distance { distance.new ≡ Spec.estimate_distance saved.now voltage distance.old }

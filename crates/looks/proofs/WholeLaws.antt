@@ -4,7 +4,7 @@ use mathlib.Core.List.{List, ◌++◌}
 use mathlib.Core.Path.{◌≡◌, refl, sym, ap, ◌∙◌}
 use Prim.Native.Nat.{ℕ, ◌+◌, ◌*◌, ◌/◌, ◌%◌, ◌<◌}
 use native.Mathlib.Omega.{arith}
-use lib.ListN.{drop, get_or, length, length-set, replicate, set, take}
+use lib.ListN.{drop, get_or, length, length-set, replicate, set}
 use Rattle.configuration.specs.Configuration.{e1}
 use Rattle.configuration.specs.declared.settings.Settings.{Settings}
 use Rattle.gauge.specs.declared.state.Gauge.{Gauge}

@@ -1,6 +1,5 @@
 -- By the laws of the masked MODE. Assumes nothing.
 use native.Mathlib.Omega.{arith}
-use borrow.Author.Rules.{rules}
 use Rattle.std.proofs.lemmas.Nat.{and_le_l}
 use Rattle.command.proofs.CommandLaws.{none_found, highest_found}
 use Rattle.command.proofs.command.highest_command_bit.Goals as goal

@@ -1,7 +1,6 @@
 -- The factors' bounds, multiplied, are below 2 to the 32. Assumes nothing.
 use Prim.Native.Nat.{◌+◌, ◌*◌, ◌/◌, ◌≤◌}
 use native.Mathlib.Omega.{arith}
-use borrow.Author.Rules.{rules}
 use Rattle.compensation.specs.Compensation.{adcgn}
 use Rattle.numbers.proofs.ProductLaws.{product_within}
 use Rattle.compensation.proofs.AgeLaws.{aged_within}

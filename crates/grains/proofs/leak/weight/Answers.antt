@@ -3,7 +3,6 @@ use mathlib.Core.Path.{ap}
 use Prim.Native.Nat.{ℕ}
 use native.Mathlib.Omega.{arith}
 use lib.ListN.{get_or}
-use borrow.Author.Rules.{rules}
 use Rattle.grains.specs.Leak.{band_table, weight}
 use Rattle.grains.proofs.LeakLaws.{band_below}
 use Rattle.grains.proofs.leak.weight.Goals as goal

@@ -1,6 +1,5 @@
 -- What is kept of the load's answer. Assumes nothing.
 use Rattle.handset.proofs.CallLaws.{converts}
-use borrow.Author.Rules.{rules}
 use Rattle.handset.proofs.calls.gauge_convert.Goals as goal
 
 pub returns : goal.returns

@@ -1,7 +1,6 @@
 -- The call below, of the numbers as handed in. Assumes nothing.
 use Rattle.numbers.proofs.SignedLaws.{narrow}
 use Rattle.handset.proofs.CallLaws.{rested}
-use borrow.Author.Rules.{rules}
 use Rattle.handset.proofs.calls.gauge_rest.Goals as goal
 
 pub returns : goal.returns

@@ -1,7 +1,6 @@
 -- The call below, of the numbers as handed in. Assumes nothing.
 use Rattle.numbers.proofs.SignedLaws.{narrow}
 use Rattle.handset.proofs.CallLaws.{windowed}
-use borrow.Author.Rules.{rules}
 use Rattle.handset.proofs.calls.gauge_window.Goals as goal
 
 pub returns : goal.returns

@@ -1,6 +1,5 @@
 -- A refused answer leaves the bytes; the parts of its gauge are put into them otherwise. Assumes nothing.
 use Rattle.handset.proofs.KeepLaws.{keep_put, keep_refused}
-use borrow.Author.Rules.{rules}
 use Rattle.handset.proofs.keep.keep.Goals as goal
 
 pub returns-then-answer-ne-NONE : goal.returns-then-answer-ne-NONE

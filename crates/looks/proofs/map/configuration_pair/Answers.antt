@@ -1,6 +1,5 @@
 -- The two bytes, each as its row shows it. Assumes nothing.
 use mathlib.Core.Path.{◌∙◌}
-use borrow.Author.Rules.{rules}
 use Rattle.looks.proofs.MapLaws.{bytes_shown}
 use Rattle.looks.proofs.map.configuration_pair.Goals as goal
 

@@ -2,7 +2,6 @@
 use mathlib.Core.Path.{refl}
 use native.Mathlib.Omega.{arith}
 use Prim.Native.Nat.{◌<◌}
-use borrow.Author.Rules.{rules}
 use Rattle.registers.specs.Map.{look_up, register, rows}
 use Rattle.looks.proofs.MapLaws.{last_of_five, shows_pair}
 use Rattle.looks.proofs.map.current_pair.Goals as goal

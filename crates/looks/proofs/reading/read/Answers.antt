@@ -31,5 +31,5 @@ pub returns : goal.returns
 returns c =
     let a = c.args in
     let p = read_saved a.gauge a.address a.count a.place a.reply.now (replicate saved_length 0) refl (fits (goal.at.returns c).Start)
-    c.save-number.ensures.number c.if-number-ne-NONE.false c.save-number.ensures.bytes c.read_in.ensures in
+    c.save-number.ensures.number c.if-number-ne-NONE.false c.save-number.ensures.bytes (c.read_in.ensures.number, c.read_in.ensures.bytes) in
     record { number = p.0; bytes = p.1 }

@@ -1,6 +1,5 @@
 -- Bytes that are not in the form, or hold no gauge that is accepted, answer 14; each other way answers what its tests pick, in the paper's order.
 -- Assumes nothing.
--- the saved bytes are in the form, and the gauge that they hold is accepted
 use mathlib.Core.Bool.{true}
 use mathlib.Core.Path.{◌≡◌, ◌∙◌, sym}
 use borrow.Author.Tests.{not-true, not-false}
@@ -9,10 +8,10 @@ use Rattle.gauge.specs.Accepted.{accepted}
 use Rattle.load.specs.Load.{decoded_gauge, form_fits}
 use Rattle.load.proofs.LoadLaws.{form_length}
 use Rattle.looks.proofs.ReadingLaws.{lent_fits, looked, misfit_read, read_beyond, read_done, read_long, read_none, read_outside, read_rejected}
-use borrow.Author.Rules.{rules}
 use Rattle.looks.proofs.reading.read_in.Goals as goal
 use Rattle.looks.proofs.reading.read_in.Goals.{Else-not-gauge_accepted}
 
+-- the saved bytes are in the form, and the gauge that they hold is accepted
 tested : (c : Else-not-gauge_accepted)
     → let a = c.args in
     (form_fits newest a.saved.now ≡ true) × (accepted (decoded_gauge a.saved.now) ≡ true)

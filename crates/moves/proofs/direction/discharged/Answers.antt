@@ -18,4 +18,4 @@ returns c =
 
 pub shape_of-saved : goal.shape_of-saved
 shape_of-saved c =
-    ap length (returns c) ∙ saved_length_lem _ ∙ sym (form_length newest c.args.saved.now c.pre)
+    ap length (returns c) ∙ saved_length_lem _ ∙ sym (form_length newest c.args.saved.now c.requires)

@@ -9,7 +9,6 @@ use Rattle.numbers.specs.Signed.{at_least_zero}
 use Rattle.permille.proofs.TableLaws.{from_first, has_entry, no_permille, permille_is}
 use Rattle.permille.specs.Rule.{rule}
 use Rattle.permille.specs.Table.{entry_of, entry_voltage, in_table}
-use borrow.Author.Rules.{rules}
 use Rattle.permille.proofs.table.permille.Goals as goal
 use Rattle.permille.proofs.table.permille.Goals.{After-at_least_zero, After-in_table}
 

@@ -4,7 +4,6 @@ use mathlib.Core.Path.{◌≡◌}
 use native.Mathlib.Omega.{arith}
 use Rattle.counters.specs.Cycles.{drain_with, most_cycles}
 use Rattle.counters.proofs.CyclesLaws.{drain_with_lem, not_whole, nothing_learned, whole_counted}
-use borrow.Author.Rules.{rules}
 use Rattle.counters.proofs.cycles.Cycles.moved.Goals as goal
 use Rattle.counters.proofs.cycles.Cycles.moved.Goals.{After-saturating_sum-drain}
 
