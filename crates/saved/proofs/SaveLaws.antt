@@ -5,8 +5,8 @@ use mathlib.Core.Path.{◌≡◌, refl, sym, ap, ◌∙◌}
 use Prim.Native.Nat.{ℕ, ◌+◌, ◌≤◌}
 use native.Mathlib.Omega.{arith}
 use lib.Dec.{eqb}
-use lib.ListN.{drop, length, replicate, take}
-use lib.Seq.{drop-length, sets, sets-eq, take-length}
+use lib.ListN.{drop, length, replicate}
+use lib.Seq.{drop-length, sets, sets-eq}
 use borrow.Author.Tests.{eq-eqb, ne_eqb}
 use Rattle.form.specs.Form.{newest, saved_length}
 use Rattle.gauge.specs.Accepted.{accepted}

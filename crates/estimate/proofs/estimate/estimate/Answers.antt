@@ -6,7 +6,6 @@ use Rattle.estimate.proofs.EstimateLaws.{handed_out, nac_low, refused}
 use Rattle.estimate.specs.Estimate.{distance_from, estimate_refusal, estimated}
 use Rattle.numbers.proofs.SignedLaws.{narrow}
 use Rattle.permille.specs.Table.{permille}
-use borrow.Author.Rules.{rules}
 use Rattle.estimate.proofs.estimate.estimate.Goals as goal
 use Rattle.estimate.proofs.estimate.estimate.Goals.{After-refusal-number, Start}
 

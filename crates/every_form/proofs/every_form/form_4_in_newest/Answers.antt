@@ -4,7 +4,6 @@ use native.Mathlib.Omega.{arith}
 use lib.ListN.{length, take}
 use lib.Seq.{length-take-le}
 use Rattle.every_form.proofs.CopiedLaws.{form_4_copied}
-use borrow.Author.Rules.{rules}
 use Rattle.every_form.proofs.every_form.form_4_in_newest.Goals as goal
 use Rattle.every_form.proofs.every_form.form_4_in_newest.Goals.{Start}
 

@@ -1,12 +1,9 @@
 -- Each copy fills the front of the zeros. Assumes nothing.
-use mathlib.Core.List.{List}
-use mathlib.Core.Path.{◌≡◌, sym, ap, ◌∙◌}
-use Prim.Native.Nat.{ℕ}
+use mathlib.Core.Path.{◌≡◌, ap}
 use native.Mathlib.Omega.{arith}
-use lib.ListN.{length, take}
+use lib.ListN.{length}
 use Rattle.form.specs.Form.{form3, form4, length_of, saved_length}
 use Rattle.every_form.proofs.CopiedLaws.{all_taken, form_2_copied, form_3_copied, form_4_placed, newest_copied, shortest_left}
-use borrow.Author.Rules.{rules}
 use Rattle.every_form.proofs.every_form.in_newest.Goals as goal
 use Rattle.every_form.proofs.every_form.in_newest.Goals.{Start}
 

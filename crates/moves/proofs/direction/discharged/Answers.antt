@@ -5,7 +5,6 @@ use Rattle.form.specs.Form.{newest}
 use Rattle.load.proofs.LoadLaws.{form_length}
 use Rattle.saved.proofs.SaveLaws.{saved_length_lem}
 use Rattle.moves.proofs.DirectionLaws.{discharged_moved}
-use borrow.Author.Rules.{rules}
 use Rattle.moves.proofs.direction.discharged.Goals as goal
 
 pub returns : goal.returns

@@ -1,6 +1,5 @@
 -- Each way answers what the decision says. Assumes nothing.
 use Rattle.moves.proofs.KeyLaws.{press_obeyed, press_refused}
-use borrow.Author.Rules.{rules}
 use Rattle.moves.proofs.key.press.Goals as goal
 
 pub returns-in-Obey : goal.returns-in-Obey

@@ -1,5 +1,5 @@
 -- Each way answers what its tests pick. Assumes nothing.
-use mathlib.Core.Path.{◌≡◌, sym, ap, ◌∙◌}
+use mathlib.Core.Path.{sym, ap, ◌∙◌}
 use Prim.Native.Nat.{ℕ}
 use native.Mathlib.Omega.{arith}
 use borrow.Author.Tests.{le-leb, le-ltb, lt-leb, lt-ltb, not-true, not-false}
@@ -11,7 +11,6 @@ use Rattle.numbers.proofs.SignedLaws.{narrow}
 use Rattle.sample.specs.Range.{temperature, temperature_in_range}
 use Rattle.saved.proofs.CallLaws.{misfit}
 use Rattle.moves.proofs.CallLaws.{moves, refuses, rest_rejects}
-use borrow.Author.Rules.{rules}
 use Rattle.moves.proofs.rest.rest.Goals as goal
 
 pub returns-then-not-form_fits : goal.returns-then-not-form_fits

@@ -16,7 +16,6 @@ use Rattle.sample.specs.declared.current.Current.{Current}
 use Rattle.saved.proofs.CallLaws.{misfit}
 use Rattle.moves.proofs.CallLaws.{moves, refuses, window_rejects}
 use Rattle.moves.proofs.DirectionLaws.{counted_none}
-use borrow.Author.Rules.{rules}
 use Rattle.moves.proofs.window.window.Goals as goal
 
 pub returns-then-not-form_fits : goal.returns-then-not-form_fits

@@ -1,6 +1,5 @@
 -- The place by its address. Assumes nothing.
 use Rattle.moves.proofs.HostByteLaws.{place_of_high, place_of_low, place_of_mode}
-use borrow.Author.Rules.{rules}
 use Rattle.moves.proofs.write.host_place.Goals as goal
 
 pub returns-then-address-eq1 : goal.returns-then-address-eq1

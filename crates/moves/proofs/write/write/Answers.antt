@@ -1,5 +1,5 @@
 -- A key at CTRL, or the ways of a byte that is put in its place. Assumes nothing.
-use mathlib.Core.Path.{◌≡◌, refl, sym, ap, ◌∙◌}
+use mathlib.Core.Path.{◌≡◌, refl, sym, ◌∙◌}
 use native.Mathlib.Omega.{arith}
 use lib.ListN.{length}
 use borrow.Author.Tests.{le-ltb, lt-ltb, ne_eqb, not-true, not-false}
@@ -12,7 +12,6 @@ use Rattle.saved.proofs.CallLaws.{misfit}
 use Rattle.moves.proofs.CallLaws.{moves, refuses, write_rejects}
 use Rattle.moves.proofs.HostByteLaws.{byte_written}
 use Rattle.moves.proofs.KeyLaws.{at_ctrl, pressed}
-use borrow.Author.Rules.{rules}
 use Rattle.moves.proofs.write.write.Goals as goal
 
 pub returns-then-not-form_fits : goal.returns-then-not-form_fits

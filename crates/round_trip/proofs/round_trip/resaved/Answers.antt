@@ -2,7 +2,6 @@
 use mathlib.Core.Path.{refl, ap}
 use Rattle.gauge.specs.declared.answer.Answer.{Answer}
 use Rattle.round_trip.proofs.RoundTripLaws.{resaved_done}
-use borrow.Author.Rules.{rules}
 use Rattle.round_trip.proofs.round_trip.resaved.Goals as goal
 
 pub returns-then-answer-ne-NONE : goal.returns-then-answer-ne-NONE

@@ -2,7 +2,6 @@
 use mathlib.Core.Path.{◌∙◌, sym}
 use borrow.Author.Tests.{not-true, not-false}
 use Rattle.saved.proofs.SaveLaws.{save_rejected, save_stored}
-use borrow.Author.Rules.{rules}
 use Rattle.saved.proofs.save.save.Goals as goal
 
 pub returns-then-not-accepted : goal.returns-then-not-accepted

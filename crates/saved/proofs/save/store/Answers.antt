@@ -1,6 +1,5 @@
 -- A buffer of another length is refused; the bytes fill one of theirs. Assumes nothing.
 use Rattle.saved.proofs.SaveLaws.{store_done, store_refused}
-use borrow.Author.Rules.{rules}
 use Rattle.saved.proofs.save.store.Goals as goal
 
 pub returns-then-buffer : goal.returns-then-buffer

@@ -1,5 +1,5 @@
 -- Each way returns what its tests pick. Assumes nothing.
-use mathlib.Core.Bool.{Bool, true, false}
+use mathlib.Core.Bool.{Bool, true}
 use mathlib.Core.Path.{◌≡◌, ap, ◌∙◌, sym}
 use Prim.Native.Nat.{ℕ}
 use borrow.Author.Tests.{not-true, not-false}
@@ -8,9 +8,7 @@ use Rattle.configuration.specs.Configuration.{dmf, s0}
 use Rattle.configuration.specs.Settings.{settings_accepted}
 use Rattle.sample.specs.Sample.{sample_accepted}
 use Rattle.standby.specs.Standby.{standby_accepted}
-use Rattle.gauge.specs.declared.state.Gauge.{Gauge}
 use Rattle.gauge.proofs.AcceptedLaws.{no_settings, no_charge, no_sample_lem, no_standby, last_test}
-use borrow.Author.Rules.{rules}
 use Rattle.gauge.proofs.state.Gauge.accepted.Goals as goal
 use Rattle.gauge.proofs.state.Gauge.accepted.Goals.{After-accepted-2, After-accepted-3, After-dmf, After-standby_accepted}
 
