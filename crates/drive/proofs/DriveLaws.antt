@@ -17,7 +17,6 @@ use Rattle.handset.specs.Calls.{open_bytes, open_number, rest_call, window_call,
 use Rattle.saved.specs.Call.{call_bytes, call_number}
 use Rattle.load.specs.Look.{look_number}
 use Rattle.history.specs.After.{after, gauge_after, number_of}
-use Rattle.history.specs.Call as Call
 use Rattle.history.specs.Call.{Call}
 use Rattle.history.proofs.ListLaws.{opened_answer, opened_taken}
 use Rattle.history.proofs.StayLaws.{stays_accepted}

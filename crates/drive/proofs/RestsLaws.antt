@@ -14,7 +14,6 @@ use Rattle.gauge.specs.Fits.{Taken}
 use Rattle.gauge.specs.declared.state.Gauge.{Gauge}
 use Rattle.saved.specs.Call.{call_bytes, call_number}
 use Rattle.history.specs.After.{after}
-use Rattle.history.specs.Call as Call
 use Rattle.history.specs.Call.{Call}
 use Rattle.history.specs.Rests.{OneByOne}
 use Rattle.history.proofs.RestsLaws.{nothing_moves, rests_of_one}

@@ -1,5 +1,6 @@
 // Demand 3 said of the saved bytes and the calls from C. The functions do nothing; their contracts are the claims.
 #![tactic(auto)]
+
 ghost use Rattle.drive.specs.Claim.{EveryDrive, FromOpening, FromSaved};
 ghost use Rattle.drive.specs.NewestForm.{NewestReads};
 ghost use Rattle.drive.specs.OlderForms.{Form1Reads, Form1Shows, Form2Reads, Form3Reads, Form4Reads};

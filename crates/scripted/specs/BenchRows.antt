@@ -7,7 +7,6 @@ use Rattle.bench_feed.specs.First.{names_fed}
 use Rattle.bench_feed.specs.Input.{fed_all}
 use Rattle.bench_output.specs.declared.output.Output.TheVariants as Output
 use Rattle.bench_window.specs.Shown.{registers_output}
-use Rattle.drive.specs.Update.{start}
 use Rattle.gauge.specs.declared.state.Gauge.{Gauge}
 use Rattle.lines.specs.Put.{place_after, put_at}
 use Rattle.lines.specs.Word.{grown}

@@ -1,6 +1,6 @@
 -- What saving and loading are put together from: the parts of the bytes, the form that a first byte tells, older bytes in the places of the
 -- newest. Each number by hand, from the papers and from the bytes of `Packs`. Definitions only; assumes nothing.
-use Rattle.std.specs.Prelude.{Bool, true, false, ◌&&◌, List, [], ◌∷◌, ◌++◌, ◌≡◌, ℕ, zero, suc, ◌+◌, ◌*◌, eqb, length, replicate, set, take}
+use Rattle.std.specs.Prelude.{Bool, true, false, ◌&&◌, List, [], ◌∷◌, ◌++◌, ◌≡◌, ℕ, zero, suc, ◌+◌, ◌*◌, eqb, replicate, set, take}
 use Rattle.configuration.specs.Settings.{opened_settings}
 use Rattle.drive.specs.OlderForms.{counters_of, gauge_of41}
 use Rattle.every_form.specs.EveryForm.{expected_by, load_answer}
@@ -10,7 +10,6 @@ use Rattle.form.specs.Signed as Pair
 use Rattle.gauge.specs.declared.state.Gauge.{Gauge}
 use Rattle.load.specs.Load.{answer_in, carried_standby, decoded_gauge, rejected_answer}
 use Rattle.round_trip.specs.RoundTrip.{reloaded_answer}
-use Rattle.sample.specs.Range.{current, current_of, temperature, voltage}
 use Rattle.saved.specs.Put.{charge_put, counters_put, flags_put, headed, host_put, parts_put, sample_put, standby_put}
 use Rattle.saved.specs.Save.{buffer_after, put_after, save_refusal, saved_bytes}
 use Rattle.scripted.specs.KeptRows.{form4_saved}

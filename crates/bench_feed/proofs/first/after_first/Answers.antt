@@ -1,7 +1,6 @@
 -- The names line was read whole, or another. Assumes nothing.
 use borrow.Author.Tests.{eq-eqb, ne_eqb}
 use Rattle.bench_feed.specs.First.{after_first}
-use borrow.Author.Rules.{rules}
 use Rattle.bench_feed.proofs.first.after_first.Goals as goal
 
 pub returns-then-matched-eq-WHOLE : goal.returns-then-matched-eq-WHOLE

@@ -1,7 +1,6 @@
 -- A newline ends the first line, any other byte is one of it. Assumes nothing.
 use borrow.Author.Tests.{eq-eqb, ne_eqb}
 use Rattle.bench_feed.specs.First.{fed_first}
-use borrow.Author.Rules.{rules}
 use Rattle.bench_feed.proofs.first.first_fed.Goals as goal
 
 pub returns-then-byte-eq-NEWLINE : goal.returns-then-byte-eq-NEWLINE

@@ -4,7 +4,6 @@ use lib.ListN.{get_or}
 use borrow.Author.Tests.{lt-ltb, le-ltb, eq-eqb, ne_eqb}
 use Rattle.bench_feed.specs.First.{names_fed}
 use Rattle.bench_feed.specs.Printed.{names_line}
-use borrow.Author.Rules.{rules}
 use Rattle.bench_feed.proofs.first.names_fed.Goals as goal
 
 pub returns-then-matched-ge-WHOLE : goal.returns-then-matched-ge-WHOLE

@@ -1,6 +1,5 @@
 -- A line that a byte has begun is a line, and none otherwise. Assumes nothing.
 use Rattle.bench_feed.specs.Listed.{line_output}
-use borrow.Author.Rules.{rules}
 use Rattle.bench_feed.proofs.list.line_output.Goals as goal
 
 pub returns-then-begun : goal.returns-then-begun

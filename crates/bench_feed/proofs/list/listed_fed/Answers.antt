@@ -2,7 +2,6 @@
 -- nothing.
 use borrow.Author.Tests.{eq-eqb, ne_eqb}
 use Rattle.bench_feed.specs.Listed.{fed_listed}
-use borrow.Author.Rules.{rules}
 use Rattle.bench_feed.proofs.list.listed_fed.Goals as goal
 
 pub returns-then-byte-eq-NEWLINE : goal.returns-then-byte-eq-NEWLINE

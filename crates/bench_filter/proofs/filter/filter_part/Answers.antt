@@ -1,10 +1,7 @@
 -- The invariant is that of the filter's turns: so many bytes are taken, and what they print stands at the start of the buffer. The measure
 -- is what is left of the part. Assumes nothing.
-use Prim.Native.Nat.{◌-◌}
 use native.Mathlib.Omega.{arith}
-use borrow.Author.Rules.{rules}
-use lib.ListN.{length}
-use Rattle.bench_filter.proofs.FilterLaws.{Filtering, begins, goes_on, stops_done, stops_full}
+use Rattle.bench_filter.proofs.FilterLaws.{begins, goes_on, stops_done, stops_full}
 use Rattle.bench_filter.proofs.filter.filter_part.Goals as goal
 
 pub loop-used-init : goal.loop-used-init

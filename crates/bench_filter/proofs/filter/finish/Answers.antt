@@ -1,6 +1,5 @@
 -- What `last_output` ensures, put at the start of the buffer; the number of its bytes is the place behind it. Assumes nothing.
 use native.Mathlib.Omega.{arith}
-use borrow.Author.Rules.{rules}
 use Rattle.bench_filter.proofs.FinishLaws.{last_put}
 use Rattle.bench_filter.proofs.filter.finish.Goals as goal
 

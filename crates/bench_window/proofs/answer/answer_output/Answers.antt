@@ -1,7 +1,6 @@
 -- Number 0 is a window that ran, whose registers are printed; any other is a refusal's. Assumes nothing.
 use borrow.Author.Tests.{eq-eqb, ne_eqb}
 use Rattle.bench_window.specs.Answer.{answer_output}
-use borrow.Author.Rules.{rules}
 use Rattle.bench_window.proofs.answer.answer_output.Goals as goal
 
 pub returns-then-number-eq0 : goal.returns-then-number-eq0

@@ -1,6 +1,5 @@
 -- The six bytes are the reply that `read` promises, and each pair is made of its two; a number of the read is printed. Assumes nothing.
 use Rattle.bench_window.proofs.ShownLaws.{number_is, registers_are}
-use borrow.Author.Rules.{rules}
 use Rattle.bench_window.proofs.shown.registers_output.Goals as goal
 
 pub returns-then-number-ne-NONE : goal.returns-then-number-ne-NONE

@@ -1,6 +1,5 @@
 -- Each arm returns the clause of the definition at its case. Assumes nothing.
 use Rattle.bench_feed.specs.Feed.{fed, fed_at}
-use borrow.Author.Rules.{rules}
 use Rattle.bench_feed.proofs.state.Bench.fed.Goals as goal
 
 pub returns-in-First : goal.returns-in-First

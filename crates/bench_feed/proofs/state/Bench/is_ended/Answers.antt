@@ -3,7 +3,6 @@ use mathlib.Core.Bool.{true, false}
 use mathlib.Core.Path.{◌≡◌}
 use Rattle.bench_feed.specs.Feed.{is_ended, ended_at}
 use Rattle.bench_feed.proofs.EndedLaws.{nothing_more}
-use borrow.Author.Rules.{rules}
 use Rattle.bench_feed.proofs.state.Bench.is_ended.Goals as goal
 
 pub returns-in-First : goal.returns-in-First

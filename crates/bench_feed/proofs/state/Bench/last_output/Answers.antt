@@ -1,6 +1,5 @@
 -- Each arm returns the clause of the definition at its case. Assumes nothing.
 use Rattle.bench_feed.specs.Feed.{last_output, last_output_at}
-use borrow.Author.Rules.{rules}
 use Rattle.bench_feed.proofs.state.Bench.last_output.Goals as goal
 
 pub returns-in-First : goal.returns-in-First

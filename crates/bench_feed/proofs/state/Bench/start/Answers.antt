@@ -8,7 +8,6 @@ use Rattle.bench_feed.specs.Printed.{printed}
 use Rattle.bench_feed.specs.declared.state.Bench.{Bench}
 use Rattle.bench_feed.specs.declared.state.Place.TheVariants.{First}
 use Rattle.bench_feed.proofs.WholeLaws.{whole_input, parts_of_input}
-use borrow.Author.Rules.{rules}
 use Rattle.bench_feed.proofs.state.Bench.start.Goals as goal
 
 abbrev opened : Answer → Bench
