@@ -51,7 +51,7 @@ def declared():
 
 
 def snake(name):
-    name = re.sub(r"([a-z0-9])([A-Z])", r"\1_\2", name).lower() if re.match(r"[a-z]", name) and re.search(r"[A-Z]", name) and "-" not in name else name
+    name = re.sub(r"([a-z0-9])([A-Z])|(?<=[A-Z])([A-Z])(?=[a-z])", lambda m: f"{m[1]}_{m[2]}" if m[1] else f"_{m[3]}", name).lower() if re.match(r"[a-z]", name) and re.search(r"[A-Z]", name) and "-" not in name else name
     return name.replace("-", "_")
 
 

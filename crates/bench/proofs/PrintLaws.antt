@@ -7,18 +7,20 @@ use native.Mathlib.Omega.{arith}
 use borrow.Author.Tests.{not-true}
 use lib.ListN.{drop, length, length-drop, length-take, take}
 use lib.Seq.{take-add, take_all, take-take}
+use Rattle.std.specs.Prelude.{Result}
 use Rattle.bench_feed.proofs.InputLaws.{fed_append}
 use Rattle.bench_feed.specs.Feed.{is_ended}
 use Rattle.bench_feed.specs.Input.{fed_all}
 use Rattle.bench_feed.specs.declared.state.Bench.{Bench}
 use Rattle.bench.specs.Print.{IsPrinted, IsProgress}
+use Rattle.bench.specs.declared.print.Failure.{Failure}
 use Rattle.bench.specs.declared.print.Printed.{Printed}
 
 -- what is left of a part, as the code names it
 abbrev pub rest : List ℕ → ℕ → List ℕ
 rest part at = take (length part - at) (drop at part)
 
-rest_length_lem : (part : List ℕ) (at : ℕ) → length (rest part at) ≡ length part - at
+pub rest_length_lem : (part : List ℕ) (at : ℕ) → length (rest part at) ≡ length part - at
 rest_length_lem part at = simp (length-take, length-drop) (omega arith)
 
 -- before each pass: so many bytes of the part are fed
@@ -52,8 +54,8 @@ module _ (s : Bench) (part : List ℕ) (q : Bench) (at : ℕ) (k : Printing s pa
       record { next = record { inside = omega arith; bench = fed }; some = λ h. p.progress (omega arith) }
 
   -- a write failed
-  pub stopped : IsProgress s part (record { bench = q; more = false })
-  stopped =
+  pub stopped : (o : Result Unit Failure) → IsProgress s part (record { bench = q; more = false; outcome = o })
+  stopped o =
       record {
         used = at;
         inside = k.inside;
@@ -63,8 +65,9 @@ module _ (s : Bench) (part : List ℕ) (q : Bench) (at : ℕ) (k : Printing s pa
       }
 
   -- every byte is fed
-  pub finished : length part ≤ at → (ended : Bool) → ended ≡ is_ended q → IsProgress s part (record { bench = q; more = not ended })
-  finished h ended e =
+  pub finished : (o : Result Unit Failure) → length part ≤ at → (ended : Bool) → ended ≡ is_ended q
+      → IsProgress s part (record { bench = q; more = not ended; outcome = o })
+  finished o h ended e =
       record {
         used = at;
         inside = k.inside;

@@ -1,9 +1,8 @@
 -- The bench program between two reads: which bytes its state has been fed. Definitions only; assumes nothing.
-use Rattle.std.specs.Prelude.{true, false, List, ◌≡◌, ℕ, ◌≤◌, ◌<◌, ℤ, pos, length, take, ◌<ℤ◌}
+use Rattle.std.specs.Prelude.{true, false, List, ◌≡◌, ℕ, ◌≤◌, ◌<◌, length, take, Result, Ok, Err}
 use Rattle.bench_feed.specs.Feed.{is_ended}
 use Rattle.bench_feed.specs.Input.{fed_all}
 use Rattle.bench_feed.specs.declared.state.Bench.{Bench}
-use Rattle.io.specs.Counts.{clamp_len}
 use Rattle.bench.specs.declared.print.Printed.{Printed}
 use Rattle.bench.specs.declared.print.Progress.{Progress}
 
@@ -22,10 +21,15 @@ pub record IsProgress (s : Bench) (part : List ℕ) (r : Progress) : Type 0 wher
   -- "Another first line .. ends it."
   pub goes_on : r.more ≡ true → is_ended r.bench ≡ false
 
+-- how many bytes a read gave: none where it failed
+abbrev pub count : {E : Type 0} → Result ℕ E → ℕ
+count (Ok n) = n
+count (Err e) = 0
+
 -- a read that gave so many bytes, at the start of the buffer: these are fed, none where it failed or the input has ended
-pub record IsRead (s : Bench) (got : ℤ) (part : List ℕ) (r : Progress) : Type 0 where
-  pub printed : IsProgress s (take (clamp_len got (length part)) part) r
-  pub some : r.more ≡ true → pos 0 <ℤ got
+pub record IsRead {E : Type 0} (s : Bench) (got : Result ℕ E) (part : List ℕ) (r : Progress) : Type 0 where
+  pub printed : IsProgress s (take (count got) part) r
+  pub some : r.more ≡ true → 0 < count got
 
 -- a turn: some bytes are fed, and where the program goes on at least one
 pub record IsTurn (s : Bench) (r : Progress) : Type 0 where

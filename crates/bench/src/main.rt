@@ -1,50 +1,83 @@
 // The bench program: a list of windows from standard input, what the bench pack shows after each to standard output. The proved
 // filter does the work; this file and print.rt only read and write.
 #![tactic(auto)]
+
 mod print;
 
+ghost use Rattle.std.specs.Prelude.{◌≡◌, List, [], ◌++◌, ℕ, IfSome, IsOk, OnOk, Some, take};
+ghost use Rattle.std.specs.Io.KnownBytes.{Appends};
 ghost use Rattle.bench.specs.Print as Spec;
+ghost use Rattle.bench.specs.Written.{Written};
+ghost use Rattle.bench_feed.specs.Printed.{printed};
 
 use bench_feed::state::Bench;
-use libc::STDIN_FILENO;
-use print::{Progress, print_end, print_part};
+use print::{BUFFER, Failure, Progress, print_end, print_part};
+use std::io;
+use std::io::{Read, Write};
 
-// Prints what a read gives: `got` bytes at the start of the buffer, 0 at the end of the input, or a negative number where it failed.
-fn print_read(bench: Bench, got: isize, part: &[u8]) -> Progress
-    ensures { Spec.IsRead bench got part.now result }
+// Prints what a read gives: so many bytes at the start of the buffer, 0 at the end of the input, or an error where it failed.
+fn print_read<W: Write>(
+    output: &mut W,
+    bench: Bench,
+    got: io::Result<usize>,
+    part: &[u8],
+) -> Progress
+    ensures fed { Spec.IsRead bench got part.now result }
+    ensures written { OnOk result.outcome ((rest : List ℕ) → (Spec.count got ≡ 0 → rest ≡ [])
+        → Written (W.contents output.old) (W.contents output.new) bench (take (Spec.count got) part.now ++ rest) result rest) }
+    ensures read { OnOk result.outcome (IsOk got) }
 {
-    if got < 0 {
-        os::fail(b"standard input");
-        return Progress { bench, more: false };
+    let n = match got {
+        Ok(n) => n,
+        Err(error) => {
+            return Progress {
+                bench,
+                more: false,
+                outcome: Err(Failure::Input(error)),
+            };
+        }
+    };
+    let at_end = n == 0;
+    if at_end {
+        let outcome = print_end(output, bench);
+        return Progress {
+            bench,
+            more: false,
+            outcome,
+        };
     }
-    if got == 0 {
-        print_end(bench);
-        return Progress { bench, more: false };
-    }
-    let n = io::count(got, part);
-    print_part(bench, &part[..n])
+    print_part(output, bench, &part[..n.min(part.len())])
 }
 
-// Reads once and prints what that gives. What `libc::read` put into the buffer no contract says.
-fn turn(bench: Bench) -> Progress
-    ensures { Spec.IsTurn bench result }
+// Reads once and prints what that gives.
+fn turn<R: Read, W: Write>(input: &mut R, output: &mut W, bench: Bench) -> Progress
+    ensures fed { Spec.IsTurn bench result }
+    ensures written { OnOk result.outcome (IfSome (R.remaining input.old) (λ all. (rest : List ℕ)
+        × (R.remaining input.new ≡ Some rest)
+        × Written (W.contents output.old) (W.contents output.new) bench all result rest)) }
 {
-    let mut part = io::buffer();
-    let got = libc::read(STDIN_FILENO, &mut part);
-    print_read(bench, got, &part)
+    let mut part = [0u8; BUFFER];
+    let got = input.read(&mut part);
+    print_read(output, bench, got, &part)
 }
 
-// A proved loop has to end and an input need not, so the turns are counted down from a number that no run uses up. The program hands
-// nothing back: proved of it is that it ends and that no step of it fails.
-fn main() {
+// Prints what the whole input gives. A proved loop has to end and an input need not, so the turns are counted by a number that no run uses up.
+pub fn run<R: Read, W: Write>(input: &mut R, output: &mut W) -> Result<(), Failure>
+    ensures { OnOk result (IfSome (R.remaining input.old)
+        (λ all. Appends (W.contents output.old) (W.contents output.new) (printed all))) }
+{
     let mut bench = Bench::start();
-    let mut turns = u64::MAX;
-    while 0 < turns {
-        let progress = turn(bench);
+    for _ in 0..u64::MAX {
+        let progress = turn(input, output, bench);
+        progress.outcome?;
         if !progress.more {
-            return;
+            return Ok(());
         }
         bench = progress.bench;
-        turns -= 1;
     }
+    Err(Failure::Input(io::Error::other("too many reads")))
+}
+
+fn main(rt: HostRuntime) -> Result<(), Failure> {
+    run(&mut rt.stdin(), &mut rt.stdout())
 }

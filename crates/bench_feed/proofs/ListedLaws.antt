@@ -12,7 +12,7 @@ use Rattle.gauge.specs.declared.state.Gauge.{Gauge}
 use Rattle.lines.proofs.LineLaws.{line_read, fed_one}
 use Rattle.lines.proofs.TextLaws.{attached, attached_newline, attached_byte}
 use Rattle.lines.specs.Line.{before, line}
-use Rattle.lines.specs.Reading.{read_as, start as emptyLine, fed as read_on, fed_all as read_all}
+use Rattle.lines.specs.Reading.{read_as, start as empty_line, fed as read_on, fed_all as read_all}
 use Rattle.lines.specs.Text.{lines_of}
 use Rattle.lines.specs.declared.line.Line.{Line}
 use Rattle.lines.specs.declared.line.Reading.{Reading}
@@ -34,7 +34,7 @@ begun_one [] b = refl
 begun_one (x ∷ p) b = refl
 
 abbrev reading : List ℕ → Reading
-reading p = read_all emptyLine p
+reading p = read_all empty_line p
 
 -- in a line of the list that begins with these bytes
 abbrev listed : Gauge → List ℕ → Bench
@@ -61,7 +61,7 @@ listed_byte : (g : Gauge) (p : List ℕ) (b : ℕ) (bs : List ℕ)
 unfolding text_of
 listed_byte g p b bs rest =
     sym (ap (λ (t : Bool). printed_from (at g (Listed t (read_on (reading p) b))) bs) (begun_one p b))
-    ∙ sym (ap (λ (r : Reading). printed_from (at g (Listed (begun (p ++ (b ∷ []))) r)) bs) (fed_one emptyLine p b))
+    ∙ sym (ap (λ (r : Reading). printed_from (at g (Listed (begun (p ++ (b ∷ []))) r)) bs) (fed_one empty_line p b))
     ∙ rest
     ∙ ap (λ (ls : List (List ℕ)). list_printed g ls) (attached_byte p b (lines_of bs))
 

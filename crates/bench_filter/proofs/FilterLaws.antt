@@ -99,8 +99,8 @@ module _ (s : Bench) (part out₀ : List ℕ) (q : Bench) (used made : ℕ) (out
       let l = k.long in
       let i = k.within in
       let m = k.made_is in
-      let x = p.1.1 (omega arith) in
-      let t = stored room (text_of step.output) out made next after (omega arith) p.0 p.1.0 in
+      let x = p.within (omega arith) in
+      let t = stored room (text_of step.output) out made next after (omega arith) p.place p.bytes in
       let place = t.place in
       let printed = printed_next h step e in
       let sum = ap length printed ∙ length-append (printed_at s so_far) (text_of step.output) in

@@ -17,8 +17,8 @@ pub last_put : (last output : Output) (out : List ℕ) (next : ℕ) (after : Lis
     × ((after ≡ put_at room (text_of last) out 0)
     × ((next ≤ length after) × (next ≡ length (take next after))))
 last_put last output out next after e long p =
-    let h = p.1.1 (omega arith) in
+    let h = p.within (omega arith) in
     let few : next ≤ length after = omega arith in (
-      p.0 ∙ ap (λ (x : Output). place_after room (text_of x) out 0) e,
-      (p.1.0 ∙ ap (λ (x : Output). put_at room (text_of x) out 0) e, (few, sym (length-take-le next after few))),
+      p.place ∙ ap (λ (x : Output). place_after room (text_of x) out 0) e,
+      (p.bytes ∙ ap (λ (x : Output). put_at room (text_of x) out 0) e, (few, sym (length-take-le next after few))),
     )

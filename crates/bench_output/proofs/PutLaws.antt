@@ -18,14 +18,14 @@ use Rattle.bench_output.specs.declared.output.Output.TheVariants.{Nothing}
 
 -- what a callee promises of a text: so many bytes of room are asked for, the next place, the bytes afterwards
 abbrev pub Asked : ℕ → List ℕ → List ℕ → ℕ → ℕ → List ℕ → Type 0
-Asked free text out at next after = (next ≡ place_after free text out at) × (after ≡ put_at free text out at)
+Asked free text out at next after = record { place : next ≡ place_after free text out at; bytes : after ≡ put_at free text out at }
 
 -- what is promised of a text with room: the place behind it, the bytes afterwards, and that it is no longer than the room
 abbrev pub IsPut : List ℕ → List ℕ → ℕ → ℕ → List ℕ → Type 0
-IsPut text out at next after = (next ≡ at + length text) × ((after ≡ sets out at text) × (next ≤ at + room))
+IsPut text out at next after = record { place : next ≡ at + length text; bytes : after ≡ sets out at text; within : next ≤ at + room }
 
 put_of : (text out : List ℕ) (at next : ℕ) (after : List ℕ) → Stored text out at next after → next ≤ at + room → IsPut text out at next after
-put_of text out at next after s h = (s.place, (s.bytes, h))
+put_of text out at next after s h = record { place = s.place; bytes = s.bytes; within = h }
 
 -- ---- numbers
 
@@ -41,7 +41,7 @@ record Number (n b : ℕ) (out : List ℕ) (at next : ℕ) (after : List ℕ) : 
 number_put : (n b : ℕ) (out : List ℕ) (at next : ℕ) (after : List ℕ) → n < 4_294_967_296 → at + 11 ≤ length out
     → Asked 11 (number_text n b) out at next after → Number n b out at next after
 number_put n b out at next after small free p =
-    let s = stored 11 (number_text n b) out at next after free p.0 p.1 in
+    let s = stored 11 (number_text n b) out at next after free p.place p.bytes in
     let few = at_most_eleven n b small in
     let here = s.place in
     record { text = s; within = omega arith; long = stored_length (number_text n b) out at next after s }
@@ -68,7 +68,7 @@ pub refused_put : (word : List ℕ) (number : ℕ) → refused_text number ≡ w
     → Asked (length word) word out at a one → Asked 11 (number_text number 10) one a b two
     → IsPut (refused_text number) out at b two
 refused_put word number e short small out one two at a b free p q =
-    let first = stored (length word) word out at a one (omega arith) p.0 p.1 in
+    let first = stored (length word) word out at a one (omega arith) p.place p.bytes in
     let place = first.place in
     let long = stored_length word out at a one first in
     let second = number_put number 10 one a b two (omega arith) (omega arith) q in
@@ -83,14 +83,15 @@ case_put output case out after at next e s = subst (λ (x : Output). IsPut (text
 
 pub nothing_put : (output : Output) (out : List ℕ) (at : ℕ) → output ≡ Nothing → IsPut (text_of output) out at at out
 unfolding text_of
-nothing_put output out at e = case_put output Nothing out out at at e (omega arith, (refl, omega arith))
+nothing_put output out at e =
+    case_put output Nothing out out at at e (record { place = omega arith; bytes = refl; within = omega arith })
 
 -- a text as it is
 pub text_put : (output case : Output) (text : List ℕ) → output ≡ case → text_of case ≡ text → length text ≤ room
     → (out : List ℕ) (at next : ℕ) (after : List ℕ) → at + room ≤ length out → Asked (length text) text out at next after
     → IsPut (text_of output) out at next after
 text_put output case text e f short out at next after free p =
-    let s = stored (length text) text out at next after (omega arith) p.0 p.1 in
+    let s = stored (length text) text out at next after (omega arith) p.place p.bytes in
     let place = s.place in
     subst (λ (t : List ℕ). IsPut t out at next after) (sym (ap text_of e ∙ f)) (put_of text out at next after s (omega arith))
 
@@ -98,14 +99,21 @@ text_put output case text e f short out at next after free p =
 
 -- what `put_output` promises
 abbrev pub IsOutput : List ℕ → List ℕ → ℕ → ℕ → List ℕ → Type 0
-IsOutput text out at next after =
-    (next ≡ place_after room text out at) × ((after ≡ put_at room text out at) × (at ≤ length out → next ≤ length out))
+IsOutput text out at next after = record {
+  place : next ≡ place_after room text out at;
+  bytes : after ≡ put_at room text out at;
+  within : at ≤ length out → next ≤ length out;
+}
 
 pub no_room : (text out : List ℕ) (at : ℕ) → length out < at + room → IsOutput text out at at out
-no_room text out at h = (place_kept room text out at h, (put_nothing room text out at h, λ k. k))
+no_room text out at h =
+    record { place = place_kept room text out at h; bytes = put_nothing room text out at h; within = λ k. k }
 
 pub with_room : (text out : List ℕ) (at next : ℕ) (after : List ℕ) → at + room ≤ length out → IsPut text out at next after
     → IsOutput text out at next after
 with_room text out at next after h p =
-    let within = p.1.1 in
-    (p.0 ∙ place_here room text out at h, (p.1.0 ∙ put_here room text out at h, λ k. omega arith))
+    let within = p.within in record {
+      place = p.place ∙ place_here room text out at h;
+      bytes = p.bytes ∙ put_here room text out at h;
+      within = λ k. omega arith;
+    }

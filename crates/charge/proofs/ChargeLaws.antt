@@ -1,10 +1,10 @@
 -- A charge put together from its parts; the empty stop is where the difference stops at 0; what acceptance says of a charge. Assumes
 -- nothing.
 use mathlib.Core.Bool.{Bool, true, false, cond, not, ◌&&◌, ◌||◌}
-use mathlib.Core.Path.{◌≡◌, refl, sym, ap, ◌∙◌}
+use mathlib.Core.Path.{◌≡◌, refl}
 use Prim.Native.Nat.{ℕ, ◌-◌, ◌≤◌, ◌<◌}
 use native.Mathlib.Omega.{arith}
-use lib.Dec.{eqb, leb, ltb}
+use lib.Dec.{eqb, leb}
 use borrow.Author.Tests.{leb-true, ltb-false, eqb-true, eqb-false, le-leb, le-ltb, eq-eqb, ne_eqb, not-true}
 use Rattle.grains.specs.Grains.{grains_of_counts, most_drain, passes}
 use Rattle.grains.specs.Run.{run_accepted}

@@ -91,6 +91,7 @@ rested_whole (suc n) rate x =
 pub rested_is : {l : ℕ} {r s : Run} (n rate : ℕ) (x : Charge) → 0 < n → l ≡ rest_leak n rate x.held → r ≡ drained x.run l → s ≡ unless_passed r
     → charge_with (x.held - l) x.lmd s ≡ rested n rate x
 unfolding leaked_at_once
+rested_is {l = l} {r = r} {s = s} zero rate x some el er es = elim some [ ]
 rested_is (suc n) rate x some el er es =
     charge_alike refl refl (es ∙ ap unless_passed er) ∙ ap (λ (l : ℕ). leaked_at_once l x) el ∙ sym (rested_whole n rate x)
 

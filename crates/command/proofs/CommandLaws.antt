@@ -1,14 +1,13 @@
 -- The mask and the leading-zero count find the bit that the bit-by-bit rule finds, for each of the 256 MODE bytes: one test
 -- that is computed, and a law that turns it into the fact at each byte. Assumes nothing.
-use mathlib.Core.Bool.{Bool, true, false, ◌&&◌, cond}
-use mathlib.Core.Path.{◌≡◌, refl, sym}
-use Prim.Native.Nat.{ℕ, zero, suc, ◌-◌, ◌≤◌, ◌<◌}
-use native.Mathlib.Omega.{arith}
+use mathlib.Core.Bool.{Bool, ◌&&◌, cond}
+use mathlib.Core.Path.{◌≡◌}
+use Prim.Native.Nat.{ℕ, ◌-◌, ◌≤◌, ◌<◌}
 use lib.Bits.{bit_and}
 use lib.Count.{count_leading_zeros}
 use lib.Dec.{T, eqb, leb, eqb→eq, leb→le}
 use borrow.Author.Tests.{eq-eqb, ne_eqb}
-use Rattle.numbers.proofs.EveryLaws.{at_each_below, every_below, first_passes, rest_passes}
+use Rattle.numbers.proofs.EveryLaws.{at_each_below, first_passes, rest_passes}
 use Rattle.command.specs.Command.{highest_command_bit}
 
 -- the command bits of MODE, masked

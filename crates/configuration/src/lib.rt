@@ -1,5 +1,6 @@
 // What the ten configuration bytes mean.
 #![tactic(auto)]
+
 pub mod accepted;
 pub mod configuration;
 pub mod settings;

@@ -1,4 +1,5 @@
 // What the gauge counts beside its charge.
 #![tactic(auto)]
+
 pub mod counters;
 pub mod cycles;

@@ -11,7 +11,7 @@ use Rattle.handset.specs.Calls.{estimate_counts, estimate_distance, estimate_num
 use Rattle.load.specs.Look.{look_leaves, look_number}
 use Rattle.history.specs.Claim.{Agrees}
 use Rattle.history.specs.Kept.{History}
-use Rattle.history.specs.Sums.{grains_acount}
+use Rattle.history.specs.Sums.{grains_a_count}
 use Rattle.numbers.specs.Signed.{at_least_zero}
 use Rattle.permille.specs.Table.{permille}
 use Rattle.refusals.specs.Refusal as Refusal
@@ -28,7 +28,7 @@ module _ (g : Gauge) (x : History) (k : Taken g) (a : Agrees g x) (v : ℤ) (e :
   part_is = ap (estimated (permille v)) a.lmd
 
   counts_are : nac g.charge.held ≡ counts_held x
-  counts_are = ap (λ (h : ℤ). at_least_zero h / grains_acount) a.held
+  counts_are = ap (λ (h : ℤ). at_least_zero h / grains_a_count) a.held
 
   pub estimate_holds : (before : ℕ) → estimate_counts (saved_bytes g) v before ≡ part_of_learned v x
   unfolding look_leaves estimate_after

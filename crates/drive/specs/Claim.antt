@@ -17,7 +17,7 @@ use Rattle.history.specs.Counters.{cycle_count, rest_count}
 use Rattle.history.specs.History.{after_calls, opened_history}
 use Rattle.history.specs.Kept.{History}
 use Rattle.history.specs.Refused.{refusal_of}
-use Rattle.history.specs.Sums.{charge_of, grains_acount}
+use Rattle.history.specs.Sums.{charge_of, grains_a_count}
 use Rattle.load.specs.Load.{answer_in}
 use Rattle.numbers.specs.Signed.{at_least_zero}
 use Rattle.permille.specs.Table.{permille}
@@ -50,7 +50,7 @@ part_of_learned v x = estimated (permille v) x.account.learned
 
 -- floor(H / G)
 abbrev pub counts_held : History → ℕ
-counts_held x = at_least_zero (charge_of x.account.sums) / grains_acount
+counts_held x = at_least_zero (charge_of x.account.sums) / grains_a_count
 
 pub record HoldsHistory (saved : List ℕ) (x : History) : Type 0 where
   -- "h equals H"

@@ -58,17 +58,17 @@ module _ (bytes : List ℕ) where
   -- ---- a copy to the front
 
   -- of a part, over zeros
-  front : (n : ℕ) {part all : List ℕ} → part ≡ bytes_at n 0 bytes → all ≡ take (length part) part ++ drop (length part) (replicate saved_length 0)
+  front : (n : ℕ) {part all : List ℕ} → part ≡ bytes_at n 0 bytes → all ≡ part ++ drop (length part) (replicate saved_length 0)
       → all ≡ bytes_at n 0 bytes ++ drop n (replicate saved_length 0)
   front n {part} p a =
       let l : length part ≡ n = ap length p ∙ bytes_length n 0 bytes in
-      a ∙ ap (λ (b : List ℕ). b ++ drop (length part) (replicate saved_length 0)) (take-length part ∙ p)
+      a ∙ ap (λ (b : List ℕ). b ++ drop (length part) (replicate saved_length 0)) p
       ∙ ap (λ (k : ℕ). bytes_at n 0 bytes ++ drop k (replicate saved_length 0)) l
 
   -- of all of them, which are as many as a form has
   module _ (n : ℕ) (l : length bytes ≡ n) where
     all_copied : bytes_at n 0 bytes ++ drop n (replicate saved_length 0) ≡ in_newest (places_of n) bytes
-        → {part all : List ℕ} → part ≡ bytes → all ≡ take (length part) part ++ drop (length part) (replicate saved_length 0)
+        → {part all : List ℕ} → part ≡ bytes → all ≡ part ++ drop (length part) (replicate saved_length 0)
         → all ≡ in_newest (places_of (length bytes)) bytes
     all_copied laid p a = front n (p ∙ sym (whole n bytes l)) a ∙ laid ∙ sym (ap (λ (k : ℕ). in_newest (places_of k) bytes) l)
 
@@ -76,16 +76,16 @@ module _ (bytes : List ℕ) where
   all_taken l = sym (ap (λ (k : ℕ). take k bytes) l) ∙ take-length bytes
 
   module _ (first : ℕ) (told : length bytes ≡ length_of (form_numbered first).fields) where
-    pub newest_copied : {all : List ℕ} → length bytes ≡ saved_length → all ≡ take (length bytes) bytes ++ drop (length bytes) (replicate saved_length 0)
+    pub newest_copied : {all : List ℕ} → length bytes ≡ saved_length → all ≡ bytes ++ drop (length bytes) (replicate saved_length 0)
         → all ≡ in_newest (form_numbered first) bytes
     newest_copied l a = all_copied saved_length l newest_laid refl a ∙ placed first bytes told
 
-    pub form_3_copied : {all : List ℕ} → length bytes ≡ 43 → all ≡ take (length bytes) bytes ++ drop (length bytes) (replicate saved_length 0)
+    pub form_3_copied : {all : List ℕ} → length bytes ≡ 43 → all ≡ bytes ++ drop (length bytes) (replicate saved_length 0)
         → all ≡ in_newest (form_numbered first) bytes
     form_3_copied l a = all_copied 43 l form_3_laid refl a ∙ placed first bytes told
 
     pub form_2_copied : {part all : List ℕ} → length bytes ≡ 41 → part ≡ bytes
-        → all ≡ take (length part) part ++ drop (length part) (replicate saved_length 0) → all ≡ in_newest (form_numbered first) bytes
+        → all ≡ part ++ drop (length part) (replicate saved_length 0) → all ≡ in_newest (form_numbered first) bytes
     form_2_copied l p a = all_copied 41 l form_2_laid p a ∙ placed first bytes told
 
     -- in the places that form 4 has
@@ -95,14 +95,14 @@ module _ (bytes : List ℕ) where
   -- ---- two copies, the second of what stands behind the count
 
   pub form_4_copied : {part behind first mid : List ℕ} → length bytes ≡ 53 → part ≡ take 43 bytes
-      → first ≡ take (length part) part ++ drop (length part) (replicate saved_length 0) → behind ≡ take 10 (drop 43 bytes)
-      → mid ≡ take (length behind) behind ++ drop (length behind) (take 10 (drop 45 first)) → take 45 first ++ (mid ++ drop 10 (drop 45 first)) ≡ in_newest form4 bytes
+      → first ≡ part ++ drop (length part) (replicate saved_length 0) → behind ≡ take 10 (drop 43 bytes)
+      → mid ≡ behind ++ drop (length behind) (take 10 (drop 45 first)) → take 45 first ++ (mid ++ drop 10 (drop 45 first)) ≡ in_newest form4 bytes
   form_4_copied {part} {behind} {first} {mid} l p f b m =
       let enough : 43 ≤ length bytes = omega arith in
       let start : first ≡ bytes_at 43 0 bytes ++ drop 43 (replicate saved_length 0) = front 43 (p ∙ sym (bytes_taken 43 bytes enough)) f in
       let end : behind ≡ bytes_at 10 43 bytes = b ∙ ap (take 10) (sym (bytes_from 10 43 bytes (sym l))) in
       let middle : mid ≡ bytes_at 10 43 bytes =
-      m ∙ ap (λ (x : List ℕ). take (length x) x ++ drop (length x) (take 10 (drop 45 first))) end
+      m ∙ ap (λ (x : List ℕ). x ++ drop (length x) (take 10 (drop 45 first))) end
       ∙ ap (λ (x : List ℕ). bytes_at 10 43 bytes ++ drop 10 (take 10 (drop 45 x))) start in
       ap (λ (x : List ℕ). take 45 x ++ (mid ++ drop 10 (drop 45 x))) start
       ∙ ap (λ (x : List ℕ). take 45 (bytes_at 43 0 bytes ++ drop 43 (replicate saved_length 0)) ++ (x ++ [])) middle ∙ form_4_laid

@@ -1,6 +1,7 @@
 // Computed rows: what the request marks to be proved, its table's examples, and rules that none of those pins. The functions do nothing;
 // their contracts keep the claims in the check.
 #![tactic(auto)]
+
 ghost use Rattle.examples.specs.AcceptedRows.{AcceptedRows};
 ghost use Rattle.examples.specs.CycleRows.{CycleRows};
 ghost use Rattle.examples.specs.EstimateRows.{EstimateRows};

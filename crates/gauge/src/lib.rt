@@ -1,5 +1,6 @@
 // The gauge: opening, windows, rests and host writes on gauge values. Stands on the crates below by their contracts alone.
 #![tactic(auto)]
+
 pub mod accepted;
 pub mod answer;
 pub mod calls;

@@ -26,7 +26,7 @@ use Rattle.numbers.specs.Signed.{at_least_zero}
 use Rattle.history.specs.Account.{after_setting}
 use Rattle.history.specs.History.{after_command, host_after, started_history, without_command}
 use Rattle.history.specs.Kept.{History}
-use Rattle.history.specs.Sums.{charge_of, grains_acount}
+use Rattle.history.specs.Sums.{charge_of, grains_a_count}
 use Rattle.history.proofs.Tracking.{Tracks, fixed_is}
 
 -- ---- the charge
@@ -36,19 +36,19 @@ pub command_tracks : (command : Command) (c : Settings) (ar : ℕ) (y : Charge) 
 unfolding charge_obeyed after_command after_setting written_nac written_lmd without_run filled opened_charge started_history
 command_tracks (Setting Wrtnac) c ar y x k p e =
     let l = k.lmd in
-    let f : min x.host.ar x.account.learned * grains_acount ≡ min (grains_of_counts ar) (grains_of_counts y.lmd) = omega arith in
-    record { held = fixed_is (min x.host.ar x.account.learned * grains_acount) ∙ ap pos f; lmd = k.lmd; run = refl }
+    let f : min x.host.ar x.account.learned * grains_a_count ≡ min (grains_of_counts ar) (grains_of_counts y.lmd) = omega arith in
+    record { held = fixed_is (min x.host.ar x.account.learned * grains_a_count) ∙ ap pos f; lmd = k.lmd; run = refl }
 command_tracks (Setting Done) c ar y x k p e =
     record {
-      held = fixed_is (x.account.learned * grains_acount) ∙ ap (λ (l : ℕ). pos (l * grains_acount)) (sym k.lmd);
+      held = fixed_is (x.account.learned * grains_a_count) ∙ ap (λ (l : ℕ). pos (l * grains_a_count)) (sym k.lmd);
       lmd = k.lmd;
       run = refl;
     }
 command_tracks (Setting Wrtlmd) c ar y x k p e =
     let n : at_least_zero (charge_of x.account.sums) ≡ y.held = ap at_least_zero k.held in
-    let f : min (at_least_zero (charge_of x.account.sums)) (x.host.ar * grains_acount) ≡ min y.held (grains_of_counts ar) = omega arith in
+    let f : min (at_least_zero (charge_of x.account.sums)) (x.host.ar * grains_a_count) ≡ min y.held (grains_of_counts ar) = omega arith in
     record {
-      held = fixed_is (min (at_least_zero (charge_of x.account.sums)) (x.host.ar * grains_acount)) ∙ ap pos f;
+      held = fixed_is (min (at_least_zero (charge_of x.account.sums)) (x.host.ar * grains_a_count)) ∙ ap pos f;
       lmd = e;
       run = refl;
     }

@@ -24,7 +24,7 @@ use Rattle.sample.specs.Range.{current_of}
 use Rattle.history.specs.Counters.{HistoryCounters, counters_after_rest, counters_after_window, cycle_count, discharged, rest_count}
 use Rattle.history.specs.History.{after_command, started_history}
 use Rattle.history.specs.Kept.{History}
-use Rattle.history.specs.Sums.{grains_acount}
+use Rattle.history.specs.Sums.{grains_a_count}
 use Rattle.history.proofs.WindowTracks.{no_outflow}
 
 pub record CountersTrack (y : Counters) (x : HistoryCounters) : Type 0 where
@@ -67,7 +67,7 @@ module _ (y : Counters) (x : HistoryCounters) (k : CountersTrack y x) where
       let d : drain_with (current_of c) y.cycles.drain ≡ x.drain + discharged c =
       drain_sum (current_of c) y.cycles.drain below (outflow_within c small)
       ∙ ap (λ (n : ℕ). y.cycles.drain + n) (outflow_is c) ∙ ap (λ (n : ℕ). n + discharged c) k.drain in
-      let q : drain_with (current_of c) y.cycles.drain / grains_of_counts l ≡ (x.drain + discharged c) / (l * grains_acount) =
+      let q : drain_with (current_of c) y.cycles.drain / grains_of_counts l ≡ (x.drain + discharged c) / (l * grains_a_count) =
       ap (λ (n : ℕ). n / grains_of_counts l) d in
       let e = k.cycles in
       record {

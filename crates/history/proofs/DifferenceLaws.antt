@@ -8,7 +8,7 @@ use lib.Dec.{ltb}
 use lib.IntN.{ℤ, pos, negsuc, neg_ℤ, sub_ℕ, ◌+ℤ◌, ◌-ℤ◌, ◌*ℤ◌}
 use lib.Signed.{le_z}
 use borrow.Author.Tests.{ltb-true, ltb-false, le-leb, lt-leb}
-use Rattle.history.specs.Sums.{grains_aunit}
+use Rattle.history.specs.Sums.{grains_a_unit}
 
 abbrev above : ℤ → ℕ
 above (pos n) = n
@@ -56,10 +56,10 @@ sum x y a b c d p q =
 pub less : (x y : ℤ) (a b c d : ℕ) → Difference x a b → Difference y c d → Difference (x -ℤ y) (a + d) (b + c)
 less x y a b c d p q = sum x (neg_ℤ y) a b d c p (negated y c d q)
 
-pub scaled : (z : ℤ) (a b : ℕ) → Difference z a b → Difference (pos grains_aunit *ℤ z) (grains_aunit * a) (grains_aunit * b)
+pub scaled : (z : ℤ) (a b : ℕ) → Difference z a b → Difference (pos grains_a_unit *ℤ z) (grains_a_unit * a) (grains_a_unit * b)
 scaled (pos n) a b d = let e = d.balance in record { balance = omega arith }
 scaled (negsuc n) a b d =
-    negated (pos (grains_aunit * suc n)) (grains_aunit * b) (grains_aunit * a)
+    negated (pos (grains_a_unit * suc n)) (grains_a_unit * b) (grains_a_unit * a)
     (record { balance = let e = d.balance in omega arith })
 
 pub is_natural : (z : ℤ) (a b : ℕ) → b ≤ a → Difference z a b → z ≡ pos (a - b)

@@ -30,7 +30,6 @@ use Rattle.refusals.specs.Refusal as Refusal
 use Rattle.refusals.proofs.OrElseLaws.{not_rejected}
 use Rattle.history.specs.After.{after, gauge_after, number_of}
 use Rattle.history.specs.Call.{Call}
-use Rattle.history.specs.Call as Call
 use Rattle.history.specs.Claim.{Agrees, Demand3, FromAnyGauge, begun, drain_of, run_of}
 use Rattle.history.specs.History.{after_call, after_calls, after_work, opened_history, started_history}
 use Rattle.history.specs.Kept.{History}

@@ -21,7 +21,6 @@ use Rattle.sample.specs.Limits.{rest_in_range}
 use Rattle.sample.specs.Range.{between, current_in_range, current_refusal, temperature_in_range, temperature_refusal, voltage_in_range, voltage_refusal}
 use Rattle.history.specs.After.{number_of}
 use Rattle.history.specs.Call.{Call}
-use Rattle.history.specs.Call as Call
 use Rattle.history.specs.Kept.{History}
 use Rattle.history.specs.Refused.{refusal_of}
 use Rattle.history.proofs.BesideLaws.{Beside}

@@ -27,7 +27,6 @@ use Rattle.sample.specs.Limits.{longest_rest, rest_in_range}
 use Rattle.sample.specs.Range.{temperature, temperature_in_range, temperature_refusal}
 use Rattle.sample.specs.Sample.{sample_rested}
 use Rattle.history.specs.After.{after, gauge_after, number_of}
-use Rattle.history.specs.Call as Call
 use Rattle.history.specs.Call.{Call}
 use Rattle.history.specs.Rests.{OneByOne, RestsOfOne}
 use Rattle.history.proofs.AnswerLaws.{rest_in_range_lem}

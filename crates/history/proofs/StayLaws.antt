@@ -30,7 +30,6 @@ use Rattle.sample.specs.Limits.{rest_in_range}
 use Rattle.sample.specs.Range.{current, temperature, temperature_in_range, voltage}
 use Rattle.history.specs.After.{gauge_after}
 use Rattle.history.specs.Call.{Call}
-use Rattle.history.specs.Call as Call
 use Rattle.history.specs.Claim.{StaysAccepted}
 use Rattle.history.proofs.AnswerLaws.{InRange, rest_in_range_lem, window_in_range}
 use Rattle.reached.proofs.ChargeAfterLaws.{window_taken}

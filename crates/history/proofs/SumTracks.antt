@@ -22,7 +22,7 @@ use Rattle.sample.specs.Range.{current_of}
 use Rattle.history.specs.Account.{Account, after_rest_window, after_sums, leak_now}
 use Rattle.history.specs.Claim.{run_of}
 use Rattle.history.specs.Drain.{gains, unless_above}
-use Rattle.history.specs.Sums.{charge_of, grains_acount, grains_aunit, with_current, with_leak}
+use Rattle.history.specs.Sums.{charge_of, grains_a_count, grains_a_unit, with_current, with_leak}
 use Rattle.charge.proofs.ChargeKept.{ChargeTaken, leak_most}
 use Rattle.history.proofs.DifferenceLaws.{Difference, is_natural}
 use Rattle.history.proofs.Tracking.{Tracks, drain_is, drain_in, drained_is, gained_drain, gains_again, passing_is}
@@ -45,7 +45,7 @@ parts_difference (negsuc n) = record { balance = omega arith }
 module _ (terms : Terms) (t : ℕ) (low : leak_rate terms.sd t ≤ 1_920) (y : Charge) (x : Account) (k : Tracks y x) (b : ChargeTaken y) where
   pub leak_is : leak_now terms (pos t) x.sums ≡ leak y.held (leak_rate terms.sd t)
   unfolding leak_now leak
-  leak_is = ap (λ (h : ℤ). at_least_zero h / grains_acount * leak_rate terms.sd t) k.held
+  leak_is = ap (λ (h : ℤ). at_least_zero h / grains_a_count * leak_rate terms.sd t) k.held
 
   drain_most : drain_in x.run ≤ most_drain
   drain_most =
@@ -107,7 +107,7 @@ module _ (terms : Terms) (t : ℕ) (low : leak_rate terms.sd t ≤ 1_920) (y : C
   -- charging ends a run; else its drain gains the leak and what is drawn, which is |c|
   run_moves : (charging : Bool) (m : ℕ) → m ≤ 65_535
       → run_moved charging (grains_of_current (cond charging 0 m)) (drained y.run (leak y.held (leak_rate terms.sd t)))
-      ≡ run_of (cond charging none (unless_above (gains (leak_now terms (pos t) x.sums + grains_aunit * m) x.run)))
+      ≡ run_of (cond charging none (unless_above (gains (leak_now terms (pos t) x.sums + grains_a_unit * m) x.run)))
   unfolding run_moved
   run_moves true m small = refl
   run_moves false m small =

@@ -12,7 +12,7 @@ use Rattle.grains.specs.Run.{drained, no_run, unless_passed}
 use Rattle.history.specs.Account.{Account}
 use Rattle.history.specs.Claim.{run_of}
 use Rattle.history.specs.Drain.{gains, unless_above}
-use Rattle.history.specs.Sums.{Sums, charge_of, fixed_at, grains_aunit, with_current, with_leak}
+use Rattle.history.specs.Sums.{Sums, charge_of, fixed_at, grains_a_unit, with_current, with_leak}
 use Rattle.history.proofs.DifferenceLaws.{Difference, is_natural, less, of_natural, of_parts, scaled, sum}
 
 pub record Tracks (y : Charge) (x : Account) : Type 0 where
@@ -24,20 +24,20 @@ pub record Tracks (y : Charge) (x : Account) : Type 0 where
 
 -- H is P + 192,000 × a − (192,000 × b + K), where Q is a − b
 pub charge_difference : (s : Sums) (a b : ℕ) → Difference s.counted a b
-    → Difference (charge_of s) (s.fixed + grains_aunit * a) (grains_aunit * b + s.leaked)
+    → Difference (charge_of s) (s.fixed + grains_a_unit * a) (grains_a_unit * b + s.leaked)
 unfolding charge_of
 charge_difference s a b d =
-    let p = sum (pos s.fixed) (pos grains_aunit *ℤ s.counted) s.fixed 0 (grains_aunit * a) (grains_aunit * b)
+    let p = sum (pos s.fixed) (pos grains_a_unit *ℤ s.counted) s.fixed 0 (grains_a_unit * a) (grains_a_unit * b)
     (of_natural s.fixed) (scaled s.counted a b d) in
-    let e = (less (pos s.fixed +ℤ pos grains_aunit *ℤ s.counted) (pos s.leaked) (s.fixed + grains_aunit * a) (0 + grains_aunit * b)
+    let e = (less (pos s.fixed +ℤ pos grains_a_unit *ℤ s.counted) (pos s.leaked) (s.fixed + grains_a_unit * a) (0 + grains_a_unit * b)
     s.leaked 0 p (of_natural s.leaked)).balance in
     record { balance = omega arith }
 
 -- H fixed at a value is that value
 pub fixed_is : (value : ℕ) → charge_of (fixed_at value) ≡ pos value
 fixed_is value =
-    let e : value + grains_aunit * 0 - (grains_aunit * 0 + 0) ≡ value = omega arith in
-    is_natural (charge_of (fixed_at value)) (value + grains_aunit * 0) (grains_aunit * 0 + 0) (omega arith)
+    let e : value + grains_a_unit * 0 - (grains_a_unit * 0 + 0) ≡ value = omega arith in
+    is_natural (charge_of (fixed_at value)) (value + grains_a_unit * 0) (grains_a_unit * 0 + 0) (omega arith)
     (charge_difference (fixed_at value) 0 0 (of_natural 0))
     ∙ ap pos e
 
@@ -52,7 +52,7 @@ leaked_difference s h l e =
 
 -- K gains a leak and Q a current, which is a − b
 pub moved_difference : (s : Sums) (h l : ℕ) (z : ℤ) (a b : ℕ) → charge_of s ≡ pos h → Difference z a b
-    → Difference (charge_of (with_current z (with_leak l s))) (h + grains_aunit * a) (l + grains_aunit * b)
+    → Difference (charge_of (with_current z (with_leak l s))) (h + grains_a_unit * a) (l + grains_a_unit * b)
 moved_difference s h l z a b e c =
     let d = of_parts s.counted in
     let old = rw e at (charge_difference s _ _ d) in

@@ -18,7 +18,7 @@ use Rattle.reached.specs.Reached.{charge_ended}
 use Rattle.reached.specs.declared.ending.Ending.TheVariants.{Above, Edvf, Edv1, Qualified}
 use Rattle.history.specs.Account.{Account, after_run, after_voltage, fixing}
 use Rattle.history.specs.Claim.{run_of}
-use Rattle.history.specs.Sums.{grains_acount}
+use Rattle.history.specs.Sums.{grains_a_count}
 use Rattle.history.specs.Tests.{qualifies, reaches_e1, reaches_edvf}
 use Rattle.history.proofs.Tracking.{Tracks, fixed_is}
 
@@ -47,7 +47,7 @@ run_tracks m y x k = go m y.run.vdq x.run refl refl
     go true true (some r) p q =
         record {
           held =
-              fixed_is (learned x.learned r / 16 * grains_acount)
+              fixed_is (learned x.learned r / 16 * grains_a_count)
               ∙ ap (λ (n : ℕ). pos (grains_of_counts (n / 16))) (sym (taught_alike y x r k q));
           lmd = taught_alike y x r k q;
           run = refl;

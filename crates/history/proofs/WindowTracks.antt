@@ -24,7 +24,7 @@ use Rattle.reached.specs.Reached.{charge_ended, charge_reached, filled_if, reach
 use Rattle.sample.specs.Current.{charge_current, discharge_current}
 use Rattle.sample.specs.Range.{current_of}
 use Rattle.history.specs.Account.{Account, after_empty_stop, after_full, after_sums, after_voltage, after_window, fixing}
-use Rattle.history.specs.Sums.{charge_of, grains_acount}
+use Rattle.history.specs.Sums.{charge_of, grains_a_count}
 use Rattle.history.specs.Tests.{reaches_e1, reaches_edvf, reaches_full, stops_empty}
 use Rattle.charge.proofs.ChargeKept.{ChargeTaken, leak_most, moved_held}
 use Rattle.history.proofs.DifferenceLaws.{above_zero, at_most_zero, is_natural}
@@ -70,10 +70,10 @@ full_tracks terms n v y x k =
   where
     go : (full : Bool)
         → Tracks (cond full (record { held = grains_of_counts y.lmd; lmd = y.lmd; run = started_run }) y)
-        (cond full (fixing (x.learned * grains_acount) x.learned (some 0)) x)
+        (cond full (fixing (x.learned * grains_a_count) x.learned (some 0)) x)
     go true =
         record {
-          held = fixed_is (x.learned * grains_acount) ∙ ap (λ (l : ℕ). pos (l * grains_acount)) (sym k.lmd);
+          held = fixed_is (x.learned * grains_a_count) ∙ ap (λ (l : ℕ). pos (l * grains_a_count)) (sym k.lmd);
           lmd = k.lmd;
           run = refl;
         }

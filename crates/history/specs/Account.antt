@@ -10,7 +10,7 @@ use Rattle.grains.specs.Leak.{leak_rate}
 use Rattle.grains.specs.Learning.{learned}
 use Rattle.numbers.specs.Signed.{at_least_zero, magnitude}
 use Rattle.history.specs.Drain.{gains, unless_above}
-use Rattle.history.specs.Sums.{Sums, charge_of, fixed_at, grains_acount, grains_aunit, with_current, with_leak}
+use Rattle.history.specs.Sums.{Sums, charge_of, fixed_at, grains_a_count, grains_a_unit, with_current, with_leak}
 use Rattle.history.specs.Tests.{qualifies, reaches_e1, reaches_edvf, reaches_full, stops_empty}
 
 pub record Account : Type 0 where
@@ -32,7 +32,7 @@ with_run run x = record { sums = x.sums; learned = x.learned; run = run }
 
 -- the leak at t, "floor(H / G) from before it being the NAC": NAC × SD × W
 unfoldable pub leak_now : Terms → ℤ → Sums → ℕ
-leak_now terms t sums = at_least_zero (charge_of sums) / grains_acount * leak_rate terms.sd (at_least_zero t)
+leak_now terms t sums = at_least_zero (charge_of sums) / grains_a_count * leak_rate terms.sd (at_least_zero t)
 
 -- "K gains the leak ..; Q gains c. If c > 0, a run ends; otherwise a run's R gains that leak and 192,000 × |c|, and the run ends if R
 -- is above 65,535 × G."
@@ -41,14 +41,14 @@ after_sums terms c t x =
     record {
       sums = with_current c (with_leak (leak_now terms t x.sums) x.sums);
       learned = x.learned;
-      run = cond (lt_z (pos 0) c) none (unless_above (gains (leak_now terms t x.sums + grains_aunit * magnitude c) x.run));
+      run = cond (lt_z (pos 0) c) none (unless_above (gains (leak_now terms t x.sums + grains_a_unit * magnitude c) x.run));
     }
 
 -- "Full (the test of step 3 on H and L): fix H at L × G; a run starts with R 0."
 unfoldable pub after_full : Terms → ℤ → ℤ → Account → Account
 after_full terms c v x =
     cond (reaches_full terms c v (charge_of x.sums) x.learned)
-    (fixing (x.learned * grains_acount) x.learned (some 0))
+    (fixing (x.learned * grains_a_count) x.learned (some 0))
     x
 
 -- "Empty stop (c < 0, H ≤ 0): fix H at 0."
@@ -59,7 +59,7 @@ after_empty_stop c x = cond (stops_empty c (charge_of x.sums)) (fixing 0 x.learn
 unfoldable pub after_run : Bool → Option ℕ → Account → Account
 after_run qualified none x = with_run none x
 after_run qualified (some r) x =
-    cond qualified (fixing (learned x.learned r / 16 * grains_acount) (learned x.learned r) none) (with_run none x)
+    cond qualified (fixing (learned x.learned r / 16 * grains_a_count) (learned x.learned r) none) (with_run none x)
 
 -- "EDVF window (c < 0, v ≤ EDVF): fix H at 0; a run ends. Otherwise, if c < 0 and v ≤ E1, a run ends"
 unfoldable pub after_voltage : Terms → ℤ → ℤ → ℤ → Account → Account
@@ -93,6 +93,6 @@ after_rest terms (suc n) t x = after_rest terms n t (after_rest_window terms t x
 -- "WRTNAC fixes H at min(AR, L) × G; WRTLMD sets L to AR and fixes H at min(H, L × G); both end a run. DONE fixes H at L × G and starts
 -- a run with R 0."
 unfoldable pub after_setting : Setting → ℕ → Account → Account
-after_setting Wrtnac ar x = fixing (min ar x.learned * grains_acount) x.learned none
-after_setting Done ar x = fixing (x.learned * grains_acount) x.learned (some 0)
-after_setting Wrtlmd ar x = fixing (min (at_least_zero (charge_of x.sums)) (ar * grains_acount)) ar none
+after_setting Wrtnac ar x = fixing (min ar x.learned * grains_a_count) x.learned none
+after_setting Done ar x = fixing (x.learned * grains_a_count) x.learned (some 0)
+after_setting Wrtlmd ar x = fixing (min (at_least_zero (charge_of x.sums)) (ar * grains_a_count)) ar none

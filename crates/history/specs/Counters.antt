@@ -3,7 +3,7 @@
 -- Definitions only; assumes nothing.
 use Rattle.std.specs.Prelude.{cond, ℕ, suc, ◌+◌, ◌*◌, ◌/◌, ◌%◌, min, eqb, ℤ, pos, negsuc}
 use Rattle.numbers.specs.Signed.{magnitude}
-use Rattle.history.specs.Sums.{grains_acount, grains_aunit}
+use Rattle.history.specs.Sums.{grains_a_count, grains_a_unit}
 
 pub record HistoryCounters : Type 0 where
   -- "rest windows since"
@@ -20,7 +20,7 @@ no_counters = record { rests = 0; cycles = 0; drain = 0 }
 -- "its counted discharge", grains: nothing of it is lost below empty, and a leak is none
 abbrev pub discharged : ℤ → ℕ
 discharged (pos n) = 0
-discharged (negsuc n) = grains_aunit * suc n
+discharged (negsuc n) = grains_a_unit * suc n
 
 -- "since the last window with c not 0"; "each window call .. adds its counted discharge to a drain, and one more cycle for every whole LMD × G in
 -- it", L being that before the window
@@ -28,8 +28,8 @@ abbrev pub counters_after_window : ℕ → ℤ → HistoryCounters → HistoryCo
 counters_after_window l c x =
     record {
       rests = cond (eqb (magnitude c) 0) x.rests 0;
-      cycles = x.cycles + (x.drain + discharged c) / (l * grains_acount);
-      drain = (x.drain + discharged c) % (l * grains_acount);
+      cycles = x.cycles + (x.drain + discharged c) / (l * grains_a_count);
+      drain = (x.drain + discharged c) % (l * grains_a_count);
     }
 
 -- "no rest" adds to the drain

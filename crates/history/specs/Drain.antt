@@ -1,11 +1,11 @@
 -- "a run with its drain R or no run" of the history in paper 01. Definitions only; assumes nothing.
 use Rattle.std.specs.Prelude.{cond, ℕ, ◌+◌, ◌*◌, ltb}
 use Rattle.std.proofs.Math.Option.{Option, none, some}
-use Rattle.history.specs.Sums.{grains_acount}
+use Rattle.history.specs.Sums.{grains_a_count}
 
 -- "65,535 × G"
 abbrev pub drain_limit : ℕ
-drain_limit = 65_535 * grains_acount
+drain_limit = 65_535 * grains_a_count
 
 -- "a run's R gains" the grains
 unfoldable pub gains : ℕ → Option ℕ → Option ℕ

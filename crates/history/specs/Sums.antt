@@ -3,12 +3,12 @@
 use Rattle.std.specs.Prelude.{ℕ, ◌+◌, ℤ, pos, ◌+ℤ◌, ◌-ℤ◌, ◌*ℤ◌}
 
 -- "192,000": the grains of a unit of counted current in a window
-abbrev pub grains_aunit : ℕ
-grains_aunit = 192_000
+abbrev pub grains_a_unit : ℕ
+grains_a_unit = 192_000
 
 -- "G = 135,000,000": the grains of a count
-abbrev pub grains_acount : ℕ
-grains_acount = 135_000_000
+abbrev pub grains_a_count : ℕ
+grains_a_count = 135_000_000
 
 pub record Sums : Type 0 where
   -- P, "the charge P at the last fixing point"
@@ -20,7 +20,7 @@ pub record Sums : Type 0 where
 
 -- "Its charge H is P + 192,000 × Q − K."
 unfoldable pub charge_of : Sums → ℤ
-charge_of s = pos s.fixed +ℤ pos grains_aunit *ℤ s.counted -ℤ pos s.leaked
+charge_of s = pos s.fixed +ℤ pos grains_a_unit *ℤ s.counted -ℤ pos s.leaked
 
 -- "To fix H at a value sets P to it and Q and K to 0."
 abbrev pub fixed_at : ℕ → Sums

@@ -4,7 +4,7 @@ use Rattle.std.specs.Prelude.{Bool, ◌&&◌, ◌||◌, cond, ℕ, ◌*◌, leb,
 use Rattle.std.specs.Int.Signed.{le_z, lt_z}
 use Rattle.configuration.specs.Terms.{Terms}
 use Rattle.numbers.specs.Signed.{magnitude}
-use Rattle.history.specs.Sums.{grains_acount}
+use Rattle.history.specs.Sums.{grains_a_count}
 
 -- "Counted current c is 0 if |a| ≤ DMF, else a."
 unfoldable pub counted_current : Terms → ℤ → ℤ
@@ -17,7 +17,7 @@ full_voltage = 4_100
 -- "Full (the test of step 3 on H and L)": "c > 0, and h ≥ LMD × G or (c ≤ 2 × TAPER and v ≥ 4,100)"
 unfoldable pub reaches_full : Terms → ℤ → ℤ → ℤ → ℕ → Bool
 reaches_full terms c v h l =
-    lt_z (pos 0) c && (le_z (pos (l * grains_acount)) h || (le_z c (pos (2 * terms.taper)) && le_z (pos full_voltage) v))
+    lt_z (pos 0) c && (le_z (pos (l * grains_a_count)) h || (le_z c (pos (2 * terms.taper)) && le_z (pos full_voltage) v))
 
 -- "Empty stop (c < 0, H ≤ 0)"
 unfoldable pub stops_empty : ℤ → ℤ → Bool

@@ -1,5 +1,6 @@
 // The claims over every list of calls. Each function does nothing; its contract is the claim.
 #![tactic(auto)]
+
 ghost use Rattle.history.specs.Claim.{Demand3, FromAnyGauge, StaysAccepted};
 ghost use Rattle.history.specs.Rests.{RestsOfOne};
 

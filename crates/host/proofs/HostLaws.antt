@@ -1,7 +1,7 @@
 -- MODE's bits kept one by one are what the arithmetic on the byte gives, for each of the 256 bytes: one computed test, and the law that gives
 -- it at each. A cleared INIT leaves the highest command bit, and cleared command bits leave none. Assumes nothing.
-use mathlib.Core.Bool.{Bool, true, false, cond, ◌&&◌}
-use mathlib.Core.Path.{◌≡◌, refl, sym, ap, ◌∙◌}
+use mathlib.Core.Bool.{Bool, true, false, cond}
+use mathlib.Core.Path.{◌≡◌, refl}
 use Prim.Native.Nat.{ℕ, ◌+◌, ◌*◌, ◌/◌, ◌%◌, ◌<◌}
 use lib.Dec.{T, eqb, eqb→eq}
 use Rattle.command.specs.Command.{highest_command_bit, no_bit}

@@ -1,3 +1,4 @@
 // The bytes that the host writes: MODE and AR.
 #![tactic(auto)]
+
 pub mod host;

@@ -120,8 +120,7 @@ middle_registers g a n h =
 -- ---- what a copy from the middle of the whole map leaves in a part
 
 pub copied_middle : (g : Gauge) (a : ℕ) (whole part after : List ℕ) → whole ≡ whole_map g → a + length part ≤ register_count
-    → after ≡ take (length (take (a + length part - a) (drop a whole))) (take (a + length part - a) (drop a whole))
-    ++ drop (length (take (a + length part - a) (drop a whole))) part
+    → after ≡ take (a + length part - a) (drop a whole) ++ drop (length (take (a + length part - a) (drop a whole))) part
     → after ≡ registers_from g a (length part)
 copied_middle g a whole part after w h e =
     let count : a + length part - a ≡ length part = omega arith in

@@ -4,7 +4,7 @@ use mathlib.Core.List.{List, ◌++◌}
 use mathlib.Core.Path.{◌≡◌, refl, sym, ap, ◌∙◌}
 use Prim.Native.Nat.{ℕ, ◌+◌, ◌*◌, ◌/◌, ◌%◌, ◌<◌}
 use native.Mathlib.Omega.{arith}
-use lib.ListN.{drop, get_or, length, length-set, replicate, set, take}
+use lib.ListN.{drop, get_or, length, length-set, replicate, set}
 use Rattle.configuration.specs.Configuration.{e1}
 use Rattle.configuration.specs.declared.settings.Settings.{Settings}
 use Rattle.gauge.specs.declared.state.Gauge.{Gauge}
@@ -136,7 +136,7 @@ bytes_stored g =
 
 -- the zeros that are copied over the reply
 pub zeros_stored : (reply after : List ℕ) → length reply ≡ register_count
-    → after ≡ take (length zeros) zeros ++ drop (length zeros) reply → after ≡ zeros
+    → after ≡ zeros ++ drop (length zeros) reply → after ≡ zeros
 zeros_stored reply after l e = copied_all zeros reply after (sym l) e
 
 pub zeros_long : {b : List ℕ} → b ≡ zeros → length b ≡ register_count

@@ -1,6 +1,6 @@
 -- Bytes in the form are the saved bytes of the gauge that they hold, and parts that are put among the saved bytes of a gauge make them those of the gauge with
 -- these parts: by the law of a stored field, one part after the other. Assumes nothing.
-use mathlib.Core.Bool.{Bool, true}
+use mathlib.Core.Bool.{true}
 use mathlib.Core.List.{List}
 use mathlib.Core.Path.{◌≡◌, refl, sym, ap, ◌∙◌}
 use Prim.Native.Nat.{ℕ, ◌<◌}

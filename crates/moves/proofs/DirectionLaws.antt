@@ -12,7 +12,6 @@ use Rattle.configuration.specs.Configuration.{s0}
 use Rattle.configuration.specs.Terms.{terms_of}
 use Rattle.configuration.specs.declared.settings.Settings.{Settings}
 use Rattle.counters.specs.Counters.{counters_moved}
-use Rattle.counters.specs.declared.counters.Counters.{Counters}
 use Rattle.flags.specs.Flags.{cleared_if}
 use Rattle.flags.specs.declared.flags.Flags.{Flags}
 use Rattle.form.specs.Form.{newest}

@@ -26,7 +26,6 @@ use Rattle.form.specs.Form.{newest}
 use Rattle.gauge.specs.Accepted.{accepted}
 use Rattle.gauge.specs.Calls.{write_answer}
 use Rattle.gauge.specs.Obey.{obeyed}
-use Rattle.gauge.specs.declared.state.Gauge.{Gauge}
 use Rattle.gauge.proofs.CallLaws.{answer, key_obeyed, key_refused, write_key}
 use Rattle.host.specs.Host.{host_obeyed}
 use Rattle.host.specs.declared.host.Host.{Host}

@@ -1,7 +1,7 @@
 -- A rest on bytes in the form: what each callee loads, gives and puts makes them the saved bytes of the rest's gauge. Assumes nothing.
 use mathlib.Core.Bool.{true, false}
 use mathlib.Core.List.{List}
-use mathlib.Core.Path.{◌≡◌, refl, ap, ◌∙◌}
+use mathlib.Core.Path.{◌≡◌, ◌∙◌}
 use Prim.Native.Nat.{ℕ, ◌<◌}
 use lib.ListN.{get_or}
 use Rattle.charge.specs.Rest.{rested}

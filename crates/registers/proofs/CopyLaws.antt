@@ -2,14 +2,13 @@
 use mathlib.Core.List.{List, ◌++◌, append-nil}
 use mathlib.Core.Path.{◌≡◌, ap, ◌∙◌}
 use Prim.Native.Nat.{ℕ}
-use lib.ListN.{drop, length, take}
-use lib.Seq.{drop-length, take-length}
+use lib.ListN.{drop, length}
+use lib.Seq.{drop-length}
 
 pub copied_all : (source part after : List ℕ) → length source ≡ length part
-    → after ≡ take (length source) source ++ drop (length source) part → after ≡ source
+    → after ≡ source ++ drop (length source) part → after ≡ source
 copied_all source part after l e =
     e
-    ∙ ap (λ (s : List ℕ). s ++ drop (length source) part) (take-length source)
     ∙ ap (λ (k : ℕ). source ++ drop k part) l
     ∙ ap (λ (s : List ℕ). source ++ s) (drop-length part)
     ∙ append-nil source

@@ -6,7 +6,7 @@ use lib.Dec.{T, leb}
 use lib.IntN.{ℤ, pos, negsuc}
 use borrow.Author.Tests.{leb-true, lt-leb}
 use Rattle.sample.specs.Range.{between, value_between}
-use Rattle.numbers.specs.Signed.{at_least_zero, magnitude}
+use Rattle.numbers.specs.Signed.{at_least_zero}
 
 pub between_is : (least most : ℕ) (x : ℤ) → 0 < least → (leb least (at_least_zero x) && leb (at_least_zero x) most) ≡ between least most x
 unfolding between

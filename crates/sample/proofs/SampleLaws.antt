@@ -1,6 +1,6 @@
 -- Samples put together, and what acceptance of one says of its parts. Assumes nothing.
-use mathlib.Core.Bool.{Bool, true, false, not, ◌&&◌}
-use mathlib.Core.Path.{◌≡◌, refl, sym, ap, ◌∙◌}
+use mathlib.Core.Bool.{Bool, true, false, ◌&&◌}
+use mathlib.Core.Path.{◌≡◌, ap}
 use Prim.Native.Nat.{ℕ}
 use Rattle.numbers.proofs.BoolLaws.{and_left, and_right, and_both}
 use Rattle.sample.specs.Current.{no_current}

@@ -1,5 +1,5 @@
 -- The counted current of "A window" in paper 01. Definitions only; assumes nothing.
-use Rattle.std.specs.Prelude.{true, false, cond, ℕ, leb}
+use Rattle.std.specs.Prelude.{false, cond, ℕ, leb}
 use Rattle.sample.specs.declared.current.Current.{Current}
 
 -- c is 0

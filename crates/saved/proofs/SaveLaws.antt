@@ -5,8 +5,8 @@ use mathlib.Core.Path.{◌≡◌, refl, sym, ap, ◌∙◌}
 use Prim.Native.Nat.{ℕ, ◌+◌, ◌≤◌}
 use native.Mathlib.Omega.{arith}
 use lib.Dec.{eqb}
-use lib.ListN.{drop, length, replicate, take}
-use lib.Seq.{drop-length, sets, sets-eq, take-length}
+use lib.ListN.{drop, length, replicate}
+use lib.Seq.{drop-length, sets, sets-eq}
 use borrow.Author.Tests.{eq-eqb, ne_eqb}
 use Rattle.form.specs.Form.{newest, saved_length}
 use Rattle.gauge.specs.Accepted.{accepted}
@@ -56,14 +56,14 @@ module _ (g : Gauge) (b : List ℕ) where
   store_refused h = let n = ne_eqb (length b) saved_length h in (simp n, simp n)
 
   pub store_done : {bytes after : List ℕ} → length b ≡ saved_length → bytes ≡ saved_bytes g
-      → after ≡ take (length bytes) bytes ++ drop (length bytes) b → (Refusal.none ≡ length_refusal (length b)) × (after ≡ put_after g b)
+      → after ≡ bytes ++ drop (length bytes) b → (Refusal.none ≡ length_refusal (length b)) × (after ≡ put_after g b)
   unfolding put_after
   store_done {bytes} l e c =
       let n = eq-eqb (length b) saved_length l in
       let full : length bytes ≡ length b = ap length e ∙ saved_length_lem g ∙ sym l in (
         simp n,
         simp n
-            (c ∙ ap (λ (r : List ℕ). r ++ drop (length bytes) b) (take-length bytes) ∙ ap (λ (k : ℕ). bytes ++ drop k b) full
+            (c ∙ ap (λ (k : ℕ). bytes ++ drop k b) full
             ∙ ap (λ (r : List ℕ). bytes ++ r) (drop-length b) ∙ append-nil bytes ∙ e),
       )
 

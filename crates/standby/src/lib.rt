@@ -1,3 +1,4 @@
 // The standby current.
 #![tactic(auto)]
+
 pub mod standby;

@@ -21,6 +21,9 @@ use Rattle.examples.proofs.proved_accepted.Goals as goal
 
 pub returns : goal.returns
 unfolding charge_accepted opened_charge opened_mode settings_accepted counters_accepted opened_counters cycles_accepted no_cycles load_answer flags_fit
+    flags_of current_of accepted open_answer open_refusal opened run_accepted opened_host charge_from counters_from gauge_from host_from sample_from
+    accepted_answer answer_in carried_standby form_fits loaded read_in rejected_answer zero_or_within current_accepted no_sample sample_accepted
+    standby_accepted
 returns c =
     record {
       lower_met = refl;

@@ -37,6 +37,13 @@ use Rattle.examples.proofs.proved_cycles.Goals as goal
 
 pub returns : goal.returns
 unfolding charge_accepted emptied filled held_moved leaked moved opened_charge run_moved taught without_run charge_obeyed written_lmd written_nac rested
+    rested_once decide decide_by highest_command_bit adcgn dcmp dt minutes offset_term rate_term dcomp_taken opened_mode settings_accepted counters_accepted
+    counters_moved counters_obeyed counters_rested opened_counters cycles_accepted cycles_moved cyct_after drain_with no_cycles flags_byte at_edv1 at_edvf
+    at_taught cleared_if flags_obeyed accepted rest_answer stored_at window_answer write_answer write_refusal written decided obeyed open_answer open_refusal
+    opened rest window band leak leak_rate rises_up_to weight learned drained run_accepted unless_passed commanded commands_cleared full_if host_obeyed
+    init_cleared opened_host stored charge_after reached_in summed ending_of may_teach is_full charge_ended charge_reached filled_if flags_ended reached_by
+    look_up register rows artte stte tte ttf fcac reduction rsoc usable_at charge_current counted discharge_current zero_or_within between current_in_range
+    value_between current_accepted no_sample sample_accepted sample_obeyed sample_rested averaged shown standby_accepted standby_obeyed
 returns c =
     record {
       drain_796 = refl;

@@ -32,6 +32,11 @@ use Rattle.examples.proofs.proved_examples.Goals as goal
 
 pub returns : goal.returns
 unfolding charge_accepted emptied filled held_moved leaked moved opened_charge run_moved taught without_run decide decide_by highest_command_bit adcgn dcmp
+    dt minutes offset_term rate_term dcomp_taken opened_mode settings_accepted counters_accepted counters_moved opened_counters cycles_accepted cycles_moved
+    cyct_after drain_with no_cycles flags_byte at_edv1 at_edvf at_taught cleared_if accepted window_answer open_answer open_refusal opened window band leak
+    leak_rate rises_up_to weight learned drained run_accepted unless_passed full_if init_cleared opened_host charge_after reached_in summed ending_of may_teach
+    is_full charge_ended charge_reached filled_if flags_ended reached_by tte rsoc usable_at charge_current counted discharge_current zero_or_within between
+    current_in_range value_between current_accepted no_sample sample_accepted averaged standby_accepted
 returns c =
     record {
       bench_lmd = refl;

@@ -28,6 +28,10 @@ use Rattle.examples.proofs.proved_forms.Goals as goal
 
 pub returns : goal.returns
 unfolding charge_accepted opened_charge adcgn dcmp dt minutes offset_term rate_term dcomp_taken opened_mode settings_accepted counters_accepted
+    opened_counters cycles_accepted no_cycles load_answer flags_byte flags_fit flags_of laid_out current_of signed_pair accepted opened run_accepted opened_host
+    bytes_in charge_from counters_from gauge_from host_from number_in sample_from accepted_answer answer_in carried_standby form_fits loaded read_in
+    rejected_answer look_up register rows artte stte tte ttf fcac reduction rsoc usable_at charge_current discharge_current zero_or_within current_accepted
+    no_sample sample_accepted field_bytes saved_bytes shown standby_accepted
 returns c =
     record {
       length_41 = refl;

@@ -26,6 +26,10 @@ use Rattle.examples.proofs.proved_rests.Goals as goal
 
 pub returns : goal.returns
 unfolding charge_accepted filled leaked opened_charge without_run charge_obeyed written_lmd written_nac rested rested_once decide decide_by
+    highest_command_bit opened_mode settings_accepted counters_accepted counters_obeyed counters_rested opened_counters cycles_accepted no_cycles flags_obeyed
+    accepted rest_answer stored_at write_answer write_refusal written decided obeyed open_answer open_refusal opened rest band leak leak_rate rises_up_to
+    weight step_windows drained run_accepted unless_passed commanded commands_cleared full_if host_obeyed init_cleared opened_host stored zero_or_within
+    between value_between current_accepted no_sample sample_accepted sample_obeyed sample_rested standby_accepted standby_obeyed
 returns c =
     record {
       first_loses = refl;

@@ -33,6 +33,12 @@ use Rattle.examples.proofs.proved_standby.Goals as goal
 
 pub returns : goal.returns
 unfolding charge_accepted emptied filled held_moved leaked moved opened_charge run_moved taught without_run charge_obeyed written_lmd written_nac decide
+    decide_by highest_command_bit minutes opened_mode settings_accepted counters_accepted counters_moved counters_obeyed opened_counters cycles_accepted
+    cycles_moved cyct_after drain_with no_cycles after_loads at_edv1 at_edvf at_taught cleared_if flags_obeyed accepted stored_at window_answer write_answer
+    write_refusal written decided obeyed open_answer open_refusal opened window band leak leak_rate rises_up_to weight learned drained run_accepted
+    unless_passed commanded commands_cleared full_if host_obeyed init_cleared opened_host stored charge_after reached_in summed ending_of may_teach is_full
+    charge_ended charge_reached filled_if flags_ended reached_by stte charge_current counted discharge_current zero_or_within between current_in_range
+    value_between current_accepted no_sample sample_accepted sample_obeyed averaged shown standby_accepted standby_obeyed
 returns c =
     record {
       opened_480 = refl;

@@ -89,6 +89,25 @@ use Rattle.scripted.proofs.proved_scripts.Goals as goal
 
 pub returns : goal.returns
 unfolding ended_at Feed.fed fed_at is_ended last_output last_output_at after_first fed_first first_output names_fed fed_all printed_at printed_from printed_of
+    fed_listed line_output lines_printed list_printed printed same_bytes refused_text registers_text text_of answer_output line_answered registers_output
+    charge_accepted emptied filled held_moved leaked moved opened_charge run_moved taught without_run charge_obeyed written_lmd written_nac rested
+    rested_once leaked_at_once command_of decide decide_by highest_command_bit adcgn dcmp dt minutes offset_term rate_term dcmp_unaged dcomp_taken opened_mode
+    settings_accepted counters_accepted counters_moved counters_obeyed counters_rested opened_counters cycles_accepted cycles_moved cyct_after drain_with
+    no_cycles bytes_after called_bytes called_number bytes_after_steps calls_of step_bytes distance_after distance_from estimate_after estimate_refusal
+    estimated load_answer flags_byte flags_fit flags_of at_edv1 at_edvf at_taught cleared_if flags_obeyed laid_out in_newest widened current_of signed_pair
+    accepted key_answer rest_answer stored_at window_answer write_answer write_refusal written decided obeyed open_answer open_refusal opened rest window
+    band leak leak_rate rises_up_to weight learned rest_leak drained run_accepted unless_passed convert_bytes convert_number open_bytes open_number kept_bytes
+    kept_number after_empty_stop after_full after_rest after_rest_window after_run after_setting after_sums after_voltage after_window leak_now after gauge_after
+    number_of begun gains unless_above after_call after_calls after_command after_key after_work after_write host_after started_history refusal_of charge_of
+    counted_current qualifies reaches_e1 reaches_edvf reaches_full stops_empty commanded commands_cleared full_if host_obeyed init_cleared opened_host stored
+    decimal decimal_within joined line three words all_digits number ranged unsigned value_from place_after put_at Reading.fed goes_on read_as spaced
+    lines_of digit_fed first_fed grown word_fed word_number bytes_in charge_from counters_from gauge_from host_from number_in sample_from accepted_answer
+    answer_in carried_standby decoded_gauge form_fits loaded of_length read_in rejected_answer look_leaves look_number decided_put key_bytes key_number
+    obeyed_put host_place rule in_table permille command_after preview_refusal Preview.reply_after charge_after reached_in summed ending_of may_teach is_full
+    charge_ended charge_reached filled_if flags_ended reached_by look_up register registers_from rows place_refusal read_refusal Reading'.reply_after artte
+    stte tte ttf fcac reduction rsoc usable_at reloaded_answer charge_current counted discharge_current zero_or_within between current_in_range value_between
+    current_accepted no_sample sample_accepted sample_obeyed sample_rested call_bytes call_number charge_put counters_put flags_put headed host_put sample_put
+    standby_put buffer_after field_bytes put_after save_refusal saved_bytes averaged shown standby_accepted standby_obeyed
 returns c =
     record {
       registers = record {

@@ -22,7 +22,7 @@ shape_of-out-then-out-made-lt-ROOM c = c.loop-used.invariant.long
 pub returns-then-out-made-lt-ROOM : goal.returns-then-out-made-lt-ROOM
 returns-then-out-made-lt-ROOM c =
     let l = c.loop-used in
-    stops_full _ _ _ l.now-bench l.used l.made l.out l.invariant c.loop-used-test.true c.if-out-made-lt-ROOM.true
+    stops_full _ _ _ l.now_bench l.used l.made l.out l.invariant c.loop-used-test.true c.if-out-made-lt-ROOM.true
 
 pub bounds-part-used : goal.bounds-part-used
 bounds-part-used c = omega arith
@@ -38,7 +38,7 @@ loop-used-preserved c =
     let l = c.loop-used in
     let f = c.fed-step in
     let p = c.put_output-made in
-    goes_on _ _ _ l.now-bench l.used l.made l.out l.invariant c.loop-used-test.true c.if-out-made-lt-ROOM.false f.result f.ensures p.result p.new.1.0 p.ensures
+    goes_on _ _ _ l.now_bench l.used l.made l.out l.invariant c.loop-used-test.true c.if-out-made-lt-ROOM.false f.result f.ensures p.result p.new.out p.ensures
 
 pub shape_of-out : goal.shape_of-out
 shape_of-out c = c.loop-used.invariant.long
@@ -46,4 +46,4 @@ shape_of-out c = c.loop-used.invariant.long
 pub returns : goal.returns
 returns c =
     let l = c.loop-used in
-    stops_done _ _ _ l.now-bench l.used l.made l.out l.invariant c.loop-used-test.false
+    stops_done _ _ _ l.now_bench l.used l.made l.out l.invariant c.loop-used-test.false

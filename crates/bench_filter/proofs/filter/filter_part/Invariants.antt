@@ -9,7 +9,7 @@ use Rattle.bench_filter.proofs.filter.filter_part.Given as goal
 
 abbrev pub invariant-loop-used : goal.invariant-loop-used
 invariant-loop-used l =
-    Filtering l.initial.now-bench l.part l.initial.out l.now-bench l.used l.made l.out
+    Filtering l.initial.now_bench l.part l.initial.out l.now_bench l.used l.made l.out
 
 abbrev pub decreases-loop-used : goal.decreases-loop-used
 decreases-loop-used l = length l.part - l.used

@@ -6,4 +6,5 @@ use Rattle.bench_filter.proofs.filter.finish.Goals as goal
 
 pub returns : goal.returns
 returns c =
-    last_put _ _ _ _ _ c.last_output.ensures (omega arith) c.put_output.ensures
+    let p = last_put _ _ _ _ _ c.last_output.ensures (omega arith) c.put_output.ensures in
+    record { place = p.0; bytes = p.1.0; within = p.1.1 }

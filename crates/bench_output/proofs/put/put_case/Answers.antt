@@ -4,7 +4,6 @@ use native.Mathlib.Omega.{arith}
 use Rattle.bench_output.specs.Output.{heading_text, names_text, unread_text, text_of}
 use Rattle.bench_output.specs.declared.output.Output.TheVariants.{Heading, Names, Unread}
 use Rattle.bench_output.proofs.PutLaws.{case_put, nothing_put, text_put}
-use borrow.Author.Rules.{rules}
 use Rattle.bench_output.proofs.put.put_case.Goals as goal
 
 pub returns-in-Nothing : goal.returns-in-Nothing

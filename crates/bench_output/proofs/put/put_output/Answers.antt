@@ -1,7 +1,6 @@
 -- Without room nothing is put; with room it is what `put_case` puts. Assumes nothing.
 use native.Mathlib.Omega.{arith}
 use Rattle.bench_output.proofs.PutLaws.{no_room, with_room}
-use borrow.Author.Rules.{rules}
 use Rattle.bench_output.proofs.put.put_output.Goals as goal
 
 pub returns-then-out-lt-ROOM : goal.returns-then-out-lt-ROOM

@@ -6,7 +6,6 @@ use Prim.Native.Nat.{ℕ}
 use native.Mathlib.Omega.{arith}
 use Rattle.bench_output.specs.Output.{refused_text}
 use Rattle.bench_output.proofs.PutLaws.{refused_put}
-use borrow.Author.Rules.{rules}
 use Rattle.bench_output.proofs.put.put_refused.Goals as goal
 
 abbrev refused : List ℕ

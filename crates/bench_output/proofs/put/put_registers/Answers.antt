@@ -1,7 +1,6 @@
 -- Four numbers, each behind the one before it. A number takes at most eleven bytes with the byte after it, so there is room for each.
 -- Assumes nothing.
 use Rattle.bench_output.proofs.PutLaws.{registers_put}
-use borrow.Author.Rules.{rules}
 use Rattle.bench_output.proofs.put.put_registers.Goals as goal
 
 pub returns : goal.returns

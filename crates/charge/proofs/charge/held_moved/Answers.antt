@@ -6,7 +6,6 @@ use Rattle.grains.specs.Grains.{grains_of_current, saturating_sum}
 use Rattle.sample.specs.Current.{discharge_current}
 use Rattle.charge.specs.Charge.{drawn, held_moved, raised}
 use Rattle.charge.proofs.ChargeLaws.{stop_is_difference}
-use borrow.Author.Rules.{rules}
 use Rattle.charge.proofs.charge.held_moved.Goals as goal
 
 pub returns : goal.returns

@@ -2,7 +2,6 @@
 use mathlib.Core.Path.{ap, ◌∙◌}
 use Rattle.grains.specs.Run.{unless_passed}
 use Rattle.charge.specs.Charge.{run_moved}
-use borrow.Author.Rules.{rules}
 use Rattle.charge.proofs.charge.run_moved.Goals as goal
 
 pub returns-then-charging : goal.returns-then-charging

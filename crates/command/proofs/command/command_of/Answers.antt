@@ -1,7 +1,6 @@
 -- Each arm returns the clause of the definition at its case. Assumes nothing.
 use mathlib.Core.Path.{sym, ap, ◌∙◌}
 use Rattle.command.specs.Command.{command_of}
-use borrow.Author.Rules.{rules}
 use Rattle.command.proofs.command.command_of.Goals as goal
 
 pub returns-in-Obey : goal.returns-in-Obey

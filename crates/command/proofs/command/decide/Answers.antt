@@ -2,7 +2,6 @@
 use mathlib.Core.Path.{ap, ◌∙◌}
 use Prim.Native.Nat.{ℕ}
 use borrow.Author.Tests.{ne_eqb}
-use borrow.Author.Rules.{rules}
 use Rattle.command.specs.Command.{commands, decide, decide_by}
 use Rattle.command.proofs.command.decide.Goals as goal
 

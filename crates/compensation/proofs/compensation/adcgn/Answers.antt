@@ -1,7 +1,6 @@
 -- The factors' bounds, multiplied, are below 2 to the 32. Assumes nothing.
 use Prim.Native.Nat.{◌+◌, ◌*◌, ◌/◌, ◌≤◌}
 use native.Mathlib.Omega.{arith}
-use borrow.Author.Rules.{rules}
 use Rattle.compensation.specs.Compensation.{adcgn}
 use Rattle.numbers.proofs.ProductLaws.{product_within}
 use Rattle.compensation.proofs.AgeLaws.{aged_within}
@@ -13,7 +12,7 @@ aged c = aged_within (omega arith) (omega arith) (omega arith)
 
 within : (c : After-dcgn) →
     c.dcgn.result * (32 + c.tcgn.result * (c.args.cyct / 16) * c.gaf.result) ≤ 31 * 380_867
-within c = product_within 31 380_867 (omega arith) (aged c)
+within c = product_within 31 380_867 (omega arith) (aged_within (omega arith) (omega arith) (omega arith))
 
 pub overflow_mul-aged : goal.overflow_mul-aged
 overflow_mul-aged c =

@@ -1,7 +1,6 @@
 -- A difference below 0 is 0, and the ceiling of a quotient adds one less than the divisor. Assumes nothing.
 use native.Mathlib.Omega.{arith}
 use Rattle.compensation.specs.Compensation.{dcmp}
-use borrow.Author.Rules.{rules}
 use Rattle.compensation.proofs.compensation.dcmp.Goals as goal
 
 pub overflow_add-result : goal.overflow_add-result

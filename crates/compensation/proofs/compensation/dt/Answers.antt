@@ -1,11 +1,7 @@
 -- Each way returns the case of `dt` that its tests pick. Assumes nothing.
-use mathlib.Core.Path.{◌≡◌}
-use Prim.Native.Nat.{◌-◌}
 use native.Mathlib.Omega.{arith}
-use borrow.Author.Rules.{rules}
 use borrow.Author.Tests.{eq-eqb, ne_eqb}
 use Rattle.compensation.specs.Compensation.{dt}
-use Rattle.configuration.specs.Configuration.{cold_threshold}
 use Rattle.compensation.proofs.compensation.dt.Goals as goal
 
 pub returns-then-temperature-eq0 : goal.returns-then-temperature-eq0

@@ -1,6 +1,5 @@
 -- Each way returns the case of `minutes` that its tests pick. Assumes nothing.
 use native.Mathlib.Omega.{arith}
-use borrow.Author.Rules.{rules}
 use borrow.Author.Tests.{eq-eqb, ne_eqb}
 use Rattle.compensation.specs.Compensation.{minutes}
 use Rattle.compensation.proofs.compensation.minutes.Goals as goal

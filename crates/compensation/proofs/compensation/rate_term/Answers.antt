@@ -1,7 +1,6 @@
 -- The factors' bounds, multiplied, are far below 2 to the 64. Assumes nothing.
 use Prim.Native.Nat.{◌+◌, ◌*◌, ◌≤◌}
 use native.Mathlib.Omega.{arith}
-use borrow.Author.Rules.{rules}
 use Rattle.compensation.specs.Compensation.{rate_term}
 use Rattle.numbers.proofs.ProductLaws.{product_within}
 use Rattle.compensation.proofs.compensation.rate_term.Goals as goal

@@ -2,7 +2,6 @@
 use Prim.Native.Nat.{◌/◌, ◌%◌}
 use mathlib.Core.Path.{◌≡◌}
 use native.Mathlib.Omega.{arith}
-use borrow.Author.Rules.{rules}
 use borrow.Author.Tests.{eq-eqb, ne_eqb}
 use Rattle.configuration.specs.Configuration.{pkcfg, dcomp_taken}
 use Rattle.configuration.proofs.configuration.dcomp_taken.Goals as goal

@@ -1,10 +1,9 @@
 -- By the law of the opened MODE's bits. Assumes nothing.
-use mathlib.Core.Path.{◌≡◌, ap, ◌∙◌}
+use mathlib.Core.Path.{ap, ◌∙◌}
 use Prim.Native.Nat.{ℕ, ◌+◌, ◌*◌, ◌/◌, ◌<◌}
 use native.Mathlib.Omega.{arith}
 use Rattle.configuration.specs.Configuration.{pkcfg}
 use Rattle.configuration.proofs.ModeLaws.{opened_mode_is}
-use borrow.Author.Rules.{rules}
 use Rattle.configuration.proofs.configuration.opened_mode.Goals as goal
 
 pub returns : goal.returns

@@ -1,7 +1,6 @@
 -- The sum, or where it stops. Assumes nothing.
 use native.Mathlib.Omega.{arith}
 use Rattle.counters.specs.Cycles.{cyct_after}
-use borrow.Author.Rules.{rules}
 use Rattle.counters.proofs.cycles.cyct_after.Goals as goal
 
 pub returns-then-cyct-cycles : goal.returns-then-cyct-cycles

@@ -1,7 +1,6 @@
 -- The difference of two numbers of two bytes, in 32 bits. Assumes nothing.
 use native.Mathlib.Omega.{arith}
 use Rattle.estimate.proofs.DistanceLaws.{bits_fit, distance_is}
-use borrow.Author.Rules.{rules}
 use Rattle.estimate.proofs.distance.distance_from.Goals as goal
 
 pub overflow_sub-result : goal.overflow_sub-result

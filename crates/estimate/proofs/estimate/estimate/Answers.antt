@@ -6,7 +6,6 @@ use Rattle.estimate.proofs.EstimateLaws.{handed_out, nac_low, refused}
 use Rattle.estimate.specs.Estimate.{distance_from, estimate_refusal, estimated}
 use Rattle.numbers.proofs.SignedLaws.{narrow}
 use Rattle.permille.specs.Table.{permille}
-use borrow.Author.Rules.{rules}
 use Rattle.estimate.proofs.estimate.estimate.Goals as goal
 use Rattle.estimate.proofs.estimate.estimate.Goals.{After-refusal-number, Start}
 
@@ -19,7 +18,8 @@ number c = c.refusal-number.ensures ∙ ap (estimate_refusal c.args.gauge) (narr
 pub returns-then-number-ne-NONE : goal.returns-then-number-ne-NONE
 returns-then-number-ne-NONE c =
     let a = c.args in
-    refused a.gauge a.voltage a.estimate.now a.distance.now (number (goal.at.returns-then-number-ne-NONE c).After-refusal-number) c.if-number-ne-NONE.true
+    let p = refused a.gauge a.voltage a.estimate.now a.distance.now (number (goal.at.returns-then-number-ne-NONE c).After-refusal-number) c.if-number-ne-NONE.true in
+    record { number = p.0; estimate = p.1.0; distance = p.1.1 }
 
 pub estimated-counts-requires : goal.estimated-counts-requires
 estimated-counts-requires c = c.permille.ensures.most
@@ -36,6 +36,7 @@ returns c =
     let a = c.args in
     let l = a.gauge.charge.lmd in
     let e = c.permille.ensures.value ∙ ap permille (narrow _ c.ranges.voltage) in
-    handed_out a.gauge a.voltage a.estimate.now a.distance.now (number (goal.at.returns c).After-refusal-number) c.if-number-ne-NONE.false
+    let p = handed_out a.gauge a.voltage a.estimate.now a.distance.now (number (goal.at.returns c).After-refusal-number) c.if-number-ne-NONE.false
     (c.estimated-counts.ensures ∙ ap (λ (k : ℕ). estimated k l) e)
-    (narrow _ (record { sfits = c.distance_from.type-inv }) ∙ c.distance_from.ensures ∙ ap (λ (k : ℕ). distance_from k c.estimated-counts.result) c.nac.ensures)
+    (narrow _ (record { sfits = c.distance_from.type_inv }) ∙ c.distance_from.ensures ∙ ap (λ (k : ℕ). distance_from k c.estimated-counts.result) c.nac.ensures) in
+    record { number = p.0; estimate = p.1.0; distance = p.1.1 }

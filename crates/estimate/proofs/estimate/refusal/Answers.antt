@@ -4,7 +4,6 @@ use borrow.Author.Tests.{le-leb, lt-leb, not-false, not-true}
 use Rattle.estimate.proofs.EstimateLaws.{accepts, outside, rejects, rested_too_short}
 use Rattle.numbers.proofs.SignedLaws.{narrow}
 use Rattle.permille.specs.Table.{in_table}
-use borrow.Author.Rules.{rules}
 use Rattle.estimate.proofs.estimate.refusal.Goals as goal
 use Rattle.estimate.proofs.estimate.refusal.Goals.{After-in_table}
 

@@ -1,6 +1,5 @@
 -- In the places of the newest form the bytes hold what they hold in their own. Assumes nothing.
 use Rattle.every_form.proofs.EveryFormLaws.{decoded_reads}
-use borrow.Author.Rules.{rules}
 use Rattle.every_form.proofs.every_form.decoded_in_newest.Goals as goal
 
 pub in_newest-whole-requires : goal.in_newest-whole-requires

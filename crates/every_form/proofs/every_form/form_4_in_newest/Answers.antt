@@ -4,7 +4,6 @@ use native.Mathlib.Omega.{arith}
 use lib.ListN.{length, take}
 use lib.Seq.{length-take-le}
 use Rattle.every_form.proofs.CopiedLaws.{form_4_copied}
-use borrow.Author.Rules.{rules}
 use Rattle.every_form.proofs.every_form.form_4_in_newest.Goals as goal
 use Rattle.every_form.proofs.every_form.form_4_in_newest.Goals.{Start}
 
@@ -12,12 +11,12 @@ use Rattle.every_form.proofs.every_form.form_4_in_newest.Goals.{Start}
 part : (s : Start) → 43 ≡ length (take 43 s.args.bytes.now)
 part s = let l = s.requires in sym (length-take-le 43 s.args.bytes.now (omega arith))
 
-pub slice-aggregate-copy : goal.slice-aggregate-copy
-slice-aggregate-copy c = part (goal.at.slice-aggregate-copy c).Start
+pub slice_bounds-put_front-end : goal.slice_bounds-put_front-end
+slice_bounds-put_front-end c = part (goal.at.slice_bounds-put_front-end c).Start
 
-pub copy-requires : goal.copy-requires
-copy-requires c = let h = part (goal.at.copy-requires c).Start in omega arith
+pub put_front-requires : goal.put_front-requires
+put_front-requires c = let h = part (goal.at.put_front-requires c).Start in omega arith
 
 pub returns : goal.returns
 returns c =
-    form_4_copied c.args.bytes.now c.requires refl c.put_front.ensures.1 refl c.put_front-2.ensures.1
+    form_4_copied c.args.bytes.now c.requires refl c.put_front.ensures refl c.put_front-2.ensures

@@ -1,32 +1,20 @@
 -- Each copy fills the front of the zeros. Assumes nothing.
-use mathlib.Core.List.{List}
-use mathlib.Core.Path.{◌≡◌, sym, ap, ◌∙◌}
-use Prim.Native.Nat.{ℕ}
+use mathlib.Core.Path.{◌≡◌, ap}
 use native.Mathlib.Omega.{arith}
-use lib.ListN.{length, take}
+use lib.ListN.{length}
+use Rattle.form.specs.Form.{form3, form4, length_of, saved_length}
 use Rattle.every_form.proofs.CopiedLaws.{all_taken, form_2_copied, form_3_copied, form_4_placed, newest_copied, shortest_left}
-use borrow.Author.Rules.{rules}
 use Rattle.every_form.proofs.every_form.in_newest.Goals as goal
+use Rattle.every_form.proofs.every_form.in_newest.Goals.{Start}
 
-module _ (c : goal.After-copy-arg) where
-  bytes : List ℕ
-  bytes = c.before.before.before.before.before.args.bytes.now
-
-  left : length bytes ≡ 41
-  unfolding bytes
-  left =
-      let k = c.before in
-      let j = k.before in
-      let i = j.before in
-      let s = i.before.before in
-      shortest_left s.args.first s.requires i.if1.false j.if2.false k.if3.false
-
-  part : 41 ≡ length (take 41 bytes)
-  part = sym (ap length (all_taken bytes left) ∙ left)
+-- the bytes of a form of the shortest length
+left : (c : Start) → (length c.args.bytes.now ≡ saved_length → ⊥) → (length c.args.bytes.now ≡ length_of form4.fields → ⊥)
+    → (length c.args.bytes.now ≡ length_of form3.fields → ⊥) → length c.args.bytes.now ≡ 41
+left c = shortest_left c.args.first c.requires
 
 pub returns-then-bytes : goal.returns-then-bytes
 returns-then-bytes c =
-    newest_copied c.args.bytes.now c.args.first c.requires c.if-bytes.true c.put_front.ensures.1
+    newest_copied c.args.bytes.now c.args.first c.requires c.if-bytes.true c.put_front.ensures
 
 pub form_4_in_newest-requires : goal.form_4_in_newest-requires
 form_4_in_newest-requires c = c.if-bytes-2.true
@@ -37,17 +25,20 @@ returns-then-bytes-2 c =
 
 pub returns-then-bytes-3 : goal.returns-then-bytes-3
 returns-then-bytes-3 c =
-    form_3_copied c.args.bytes.now c.args.first c.requires c.if-bytes-3.true c.put_front-then-bytes-3.ensures.1
+    form_3_copied c.args.bytes.now c.args.first c.requires c.if-bytes-3.true c.put_front-then-bytes-3.ensures
 
-pub slice-aggregate-copy-3 : goal.slice-aggregate-copy-3
-unfolding bytes
-slice-aggregate-copy-3 c = part c
+pub slice_bounds-put_front-end-2 : goal.slice_bounds-put_front-end-2
+slice_bounds-put_front-end-2 c =
+    let l = left (goal.at.slice_bounds-put_front-end-2 c).Start c.if-bytes.false c.if-bytes-2.false c.if-bytes-3.false in
+    omega (arith, ap length (all_taken c.args.bytes.now l))
 
-pub copy-requires-3 : goal.copy-requires-3
-unfolding bytes
-copy-requires-3 c = let h = part c in omega arith
+pub put_front-requires-2 : goal.put_front-requires-2
+put_front-requires-2 c =
+    let l = left (goal.at.put_front-requires-2 c).Start c.if-bytes.false c.if-bytes-2.false c.if-bytes-3.false in
+    omega (arith, ap length (all_taken c.args.bytes.now l))
 
 pub returns : goal.returns
-unfolding bytes
 returns c =
-    form_2_copied (bytes f) c.args.first c.requires (left f) (all_taken (bytes f) (left f)) c.put_front-2.ensures.1
+    let bytes = c.args.bytes.now in
+    let l = left (goal.at.returns c).Start c.if-bytes.false c.if-bytes-2.false c.if-bytes-3.false in
+    form_2_copied bytes c.args.first c.requires l (all_taken bytes l) c.put_front-2.ensures

@@ -5,7 +5,6 @@ use borrow.Author.Tests.{not-true, not-false}
 use Rattle.every_form.proofs.EveryFormLaws.{Tested, carries, fit_length, misfit, units_misfit}
 use Rattle.gauge.specs.Parts.{gauge_of}
 use Rattle.gauge.specs.declared.state.Gauge.{Gauge}
-use borrow.Author.Rules.{rules}
 use Rattle.every_form.proofs.every_form.load.Goals as goal
 use Rattle.every_form.proofs.every_form.load.Goals.{After-in_form}
 

@@ -1,6 +1,5 @@
 -- The sum of the five flags, each at its bit. Assumes nothing.
 use Rattle.flags.proofs.FlagsLaws.{byte_is}
-use borrow.Author.Rules.{rules}
 use Rattle.flags.proofs.byte.flags_byte.Goals as goal
 
 pub returns : goal.returns

@@ -1,6 +1,5 @@
 -- Each way returns the fields that its test picks. Assumes nothing.
 use Rattle.form.proofs.SignedLaws.{upper_is, lower_is}
-use borrow.Author.Rules.{rules}
 use Rattle.form.proofs.signed.current_of.Goals as goal
 
 pub returns-then-pair-lt-FIRST_NEGATIVE : goal.returns-then-pair-lt-FIRST_NEGATIVE

@@ -1,6 +1,5 @@
 -- Each way returns the case that its test picks. Assumes nothing.
 use Rattle.form.proofs.SignedLaws.{pair_of_charge, pair_of_discharge}
-use borrow.Author.Rules.{rules}
 use Rattle.form.proofs.signed.signed_pair.Goals as goal
 
 pub returns-then-current : goal.returns-then-current

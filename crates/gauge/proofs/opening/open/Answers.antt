@@ -1,15 +1,11 @@
 -- Each way answers what its tests pick; ten bytes read one by one are the bytes handed in. Assumes nothing.
-use mathlib.Core.Path.{◌≡◌, ap, ◌∙◌, sym}
-use mathlib.Core.List.{List}
-use Prim.Native.Nat.{ℕ}
-use lib.Dec.{eqb}
+use mathlib.Core.Path.{ap, ◌∙◌, sym}
 use borrow.Author.Tests.{eq-eqb, ne_eqb}
 use Rattle.configuration.specs.Configuration.{ilmd}
 use Rattle.configuration.specs.Settings.{opened_settings}
 use Rattle.numbers.proofs.LittleLaws.{whole}
 use Rattle.gauge.specs.Opening.{opened}
 use Rattle.gauge.proofs.OpeningLaws.{open_length, open_capacity, open_done}
-use borrow.Author.Rules.{rules}
 use Rattle.gauge.proofs.opening.open.Goals as goal
 
 pub returns-then-bytes-ne10 : goal.returns-then-bytes-ne10

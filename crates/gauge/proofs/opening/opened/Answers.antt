@@ -7,7 +7,6 @@ use Rattle.host.specs.Host.{opened_host}
 use Rattle.standby.specs.Standby.{opened_standby}
 use Rattle.gauge.specs.Opening.{opened}
 use Rattle.gauge.proofs.GaugeLaws.{gauge_alike}
-use borrow.Author.Rules.{rules}
 use Rattle.gauge.proofs.opening.opened.Goals as goal
 
 pub returns : goal.returns

@@ -1,6 +1,5 @@
 -- By the law that the band counts whole 40 quarter kelvins above 1,052. Assumes nothing.
 use native.Mathlib.Omega.{arith}
-use borrow.Author.Rules.{rules}
 use Rattle.grains.proofs.LeakLaws.{band_is}
 use Rattle.grains.proofs.leak.band.Goals as goal
 

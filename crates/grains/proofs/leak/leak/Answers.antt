@@ -1,8 +1,7 @@
 -- The product fits because it is at most the charge held. Assumes nothing.
 use mathlib.Core.Path.{◌≡◌, ap}
-use Prim.Native.Nat.{ℕ, ◌*◌, ◌≤◌}
+use Prim.Native.Nat.{ℕ, ◌*◌}
 use native.Mathlib.Omega.{arith}
-use borrow.Author.Rules.{rules}
 use Rattle.grains.specs.Leak.{leak}
 use Rattle.grains.proofs.LeakLaws.{leak_within}
 use Rattle.grains.proofs.leak.leak.Goals as goal

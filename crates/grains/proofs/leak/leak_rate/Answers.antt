@@ -2,7 +2,6 @@
 use mathlib.Core.Path.{ap}
 use Prim.Native.Nat.{ℕ, ◌*◌, ◌≤◌}
 use native.Mathlib.Omega.{arith}
-use borrow.Author.Rules.{rules}
 use Rattle.grains.specs.Leak.{leak_rate}
 use Rattle.numbers.proofs.ProductLaws.{product_within}
 use Rattle.grains.proofs.leak.leak_rate.Goals as goal

@@ -3,13 +3,12 @@ use mathlib.Core.Path.{ap}
 use Prim.Native.Nat.{ℕ}
 use native.Mathlib.Omega.{arith}
 use lib.ListN.{get_or}
-use borrow.Author.Rules.{rules}
 use Rattle.grains.specs.Leak.{band_table, weight}
 use Rattle.grains.proofs.LeakLaws.{band_below}
 use Rattle.grains.proofs.leak.weight.Goals as goal
 
-pub array-read-result : goal.array-read-result
-array-read-result c = omega (arith, band_below c.args.temperature)
+pub bounds-at : goal.bounds-at
+bounds-at c = omega (arith, band_below c.args.temperature)
 
 pub returns : goal.returns
 unfolding weight

@@ -1,6 +1,5 @@
 -- Both ways are arithmetic: the capacity measured is below 65,536, and so is the least. Assumes nothing.
 use native.Mathlib.Omega.{arith}
-use borrow.Author.Rules.{rules}
 use Rattle.grains.specs.Learning.{learned}
 use Rattle.grains.proofs.learning.learned.Goals as goal
 

@@ -1,13 +1,8 @@
 -- The invariant says what is left to do: the windows left, from what is held now, end where all of them end from the start. The measure is the counts
 -- still to be lost: the loop makes at most one turn more than counts are lost. Assumes nothing.
-use mathlib.Core.Path.{refl, ◌∙◌}
 use Prim.Native.Nat.{◌-◌}
-use native.Mathlib.Nat.{div-le_self}
-use native.Mathlib.Omega.{arith}
-use borrow.Author.Rules.{rules}
 use Rattle.grains.specs.Rest.{rest_leak}
-use Rattle.numbers.proofs.ProductLaws.{product_within}
-use Rattle.grains.proofs.StepLaws.{Resting, begins, counted, last_ends, last_within, leak_most, loses, none_lost, over_below, rate_within, steps, to_lose}
+use Rattle.grains.proofs.StepLaws.{Resting, to_lose}
 use Rattle.grains.proofs.rest.held_after.Given as goal
 
 abbrev pub invariant-loop-grains : goal.invariant-loop-grains

@@ -1,6 +1,5 @@
 -- Where the first test fails, nothing is promised. Assumes nothing.
 use mathlib.Core.Bool.{false≢true}
-use borrow.Author.Rules.{rules}
 use Rattle.grains.proofs.rest.in_range.Goals as goal
 
 pub returns-then-held-gt-MOST_DRAIN : goal.returns-then-held-gt-MOST_DRAIN

@@ -1,11 +1,8 @@
 -- The invariant says what is left to do: the windows left, from what is held now, end where all of them end from the start. The measure is the windows
 -- left; in range the first turn returns. Assumes nothing.
-use mathlib.Core.Path.{◌≡◌, sym, ◌∙◌}
+use mathlib.Core.Path.{◌≡◌}
 use Prim.Native.Nat.{◌-◌, ◌≤◌}
-use native.Mathlib.Omega.{arith}
-use borrow.Author.Rules.{rules}
 use Rattle.grains.specs.Rest.{rest_leak}
-use Rattle.grains.proofs.RestLaws.{ends_after_first, leak_none, leaks_none, rest_leak_within}
 use Rattle.grains.proofs.rest.rest_leak.Given as goal
 
 abbrev pub invariant-loop-left : goal.invariant-loop-left

@@ -7,7 +7,6 @@ use Rattle.load.proofs.LoadLaws.{decoded_is}
 use Rattle.numbers.proofs.SignedLaws.{narrow}
 use Rattle.handset.proofs.EstimateLaws.{distance_keeps, estimate_keeps, estimate_rejects}
 use Rattle.load.proofs.LookLaws.{look_leaves_lem, look_number_lem, misfit_leaves, misfit_number}
-use borrow.Author.Rules.{rules}
 use Rattle.handset.proofs.calls.gauge_estimate.Goals as goal
 
 pub returns-then-not-form_fits : goal.returns-then-not-form_fits
@@ -26,12 +25,13 @@ returns c =
     let g = c.decoded-gauge.result in
     let fit = sym c.form_fits.ensures ∙ not-false _ c.if-not-form_fits.false-raw in
     let held = c.decoded-gauge.ensures ∙ decoded_is _ fit in
-    let v = narrow _ c.ranges.voltage in (
-      look_number_lem a.saved.now fit held (estimate_rejects a.voltage) (c.estimate.ensures.number ∙ ap (estimate_refusal g) v),
-      (
-        look_leaves_lem a.saved.now fit held (estimate_keeps a.voltage a.estimate.now)
-            (c.estimate.ensures.estimate.0 ∙ ap (λ (z : ℤ). estimate_after g z a.estimate.now) v),
-        look_leaves_lem a.saved.now fit held (distance_keeps a.voltage a.distance.now)
-            (c.estimate.ensures.estimate.1 ∙ ap (λ (z : ℤ). distance_after g z a.distance.now) v),
-      ),
-    )
+    let v = narrow _ c.ranges.voltage in
+    record {
+      number = look_number_lem a.saved.now fit held (estimate_rejects a.voltage) (c.estimate.ensures.number ∙ ap (estimate_refusal g) v);
+      estimate =
+          look_leaves_lem a.saved.now fit held (estimate_keeps a.voltage a.estimate.now)
+          (c.estimate.ensures.estimate ∙ ap (λ (z : ℤ). estimate_after g z a.estimate.now) v);
+      distance =
+          look_leaves_lem a.saved.now fit held (distance_keeps a.voltage a.distance.now)
+          (c.estimate.ensures.distance ∙ ap (λ (z : ℤ). distance_after g z a.distance.now) v);
+    }

@@ -1,7 +1,6 @@
 -- By the law of the kept bits. Assumes nothing.
 use native.Mathlib.Omega.{arith}
 use Rattle.host.proofs.HostLaws.{commands_cleared_is}
-use borrow.Author.Rules.{rules}
 use Rattle.host.proofs.host.commands_cleared.Goals as goal
 
 pub returns : goal.returns

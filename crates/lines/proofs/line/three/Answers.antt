@@ -1,6 +1,6 @@
 -- Each way returns the clause of the definition at its cases. Assumes nothing.
 use Rattle.lines.specs.Line.{joined}
-use borrow.Author.Rules.{rules}
+use native.Mathlib.Omega.{arith}
 use Rattle.lines.proofs.SignedLaws.{numbers_joined}
 use Rattle.lines.proofs.line.three.Goals as goal
 
@@ -19,8 +19,5 @@ returns-in_default-third c =
 
 pub returns : goal.returns
 returns c =
-    let x = c.first-1.given in
-    let y = c.second-1.given in
-    let z = c.third-1.given in
-    numbers_joined x.0.0 y.0.0 z.0.0 c.known_told-1.given.0.1 c.known_told-in-Whole-second-1.given.0.1
-    c.known_told-in-Whole-third-1.given.0.1 _ _ _ x.1 y.1 z.1
+    numbers_joined c.in-Whole.a c.in-Whole-second.b c.in-Whole-third.c (omega arith) (omega arith) (omega arith) _ _ _
+    c.in-Whole.is c.in-Whole-second.is c.in-Whole-third.is

@@ -1,13 +1,9 @@
 -- The invariant: the digits of the rest, stored up to i, complete the number's. The measure is the rest. Assumes nothing.
-use Prim.Native.Nat.{ℕ, ◌+◌, ◌-◌, ◌/◌, ◌%◌, ◌<◌}
-use mathlib.Core.List.{List}
-use mathlib.Core.Path.{◌≡◌, refl, sym, ap, ◌∙◌}
-use native.Mathlib.Omega.{arith}
-use lib.ListN.{length, set, length-set}
+use Prim.Native.Nat.{◌+◌, ◌<◌}
+use mathlib.Core.Path.{◌≡◌}
+use lib.ListN.{length}
 use lib.Seq.{sets}
 use Rattle.lines.specs.Decimal.{decimal}
-use Rattle.lines.proofs.DecimalLaws.{decimal_one, decimal_more, length_one, length_more, at_least_one}
-use Rattle.lines.proofs.PutLaws.{last_first}
 use Rattle.lines.proofs.put.put_digits.Given as goal
 
 abbrev pub invariant-loop-rest : goal.invariant-loop-rest

@@ -6,7 +6,6 @@ use native.Mathlib.Omega.{arith}
 use lib.ListN.{length, length-append}
 use Rattle.lines.specs.Decimal.{decimal}
 use Rattle.lines.proofs.PutLaws.{stored_behind, put_here, place_here, put_nothing, place_kept}
-use borrow.Author.Rules.{rules}
 use Rattle.lines.proofs.put.put_number.Goals as goal
 
 pub returns-then-out-lt11 : goal.returns-then-out-lt11
@@ -35,6 +34,6 @@ returns c =
     let l = length-append (decimal a.number) (a.after ∷ []) in
     let place : a.at + w.result + 1 ≡ a.at + length (decimal a.number ++ (a.after ∷ [])) = omega arith in record {
       place = place ∙ place_here 11 (decimal a.number ++ (a.after ∷ [])) a.out.now a.at h;
-      bytes = stored_behind (decimal a.number) _ a.out.now a.at _ a.after c.put_digits.ensures w.ensures.0
+      bytes = stored_behind (decimal a.number) _ a.out.now a.at _ a.after c.put_digits.ensures w.ensures.value
           ∙ put_here 11 (decimal a.number ++ (a.after ∷ [])) a.out.now a.at h;
     }

@@ -1,10 +1,10 @@
 -- The invariant says what is left to do: the stores of the bytes left end where all of them end from the start. The measure is
 -- what is left of the text. Assumes nothing.
-use Prim.Native.Nat.{ℕ, ◌+◌, ◌-◌, ◌≤◌, ◌<◌}
+use Prim.Native.Nat.{ℕ, ◌+◌, ◌<◌}
 use mathlib.Core.Path.{◌≡◌, refl, sym, ap, ◌∙◌}
 use native.Mathlib.Nat.{add-zero}
 use native.Mathlib.Omega.{arith}
-use lib.ListN.{length, drop, get_or, length-set}
+use lib.ListN.{length, get_or, length-set}
 use lib.Seq.{sets}
 use Rattle.lines.proofs.PutLaws.{next_stored, all_stored, put_here, place_here, put_nothing, place_kept}
 use Rattle.lines.proofs.put.put_text.Goals as goal

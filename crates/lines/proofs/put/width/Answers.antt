@@ -1,9 +1,5 @@
 -- The invariant: the digits counted and those of the rest are one more than the number's. The measure is the rest. Assumes nothing.
-use Prim.Native.Nat.{◌+◌}
-use mathlib.Core.Path.{◌≡◌}
 use native.Mathlib.Omega.{arith}
-use lib.ListN.{length}
-use Rattle.lines.specs.Decimal.{decimal}
 use Rattle.lines.proofs.DecimalLaws.{length_one, length_more, at_least_one, at_most_ten}
 use Rattle.lines.proofs.put.width.Goals as goal
 

@@ -1,7 +1,6 @@
 -- Each way returns what its tests of the byte pick. Assumes nothing.
 use borrow.Author.Tests.{le-leb, lt-leb}
 use Rattle.lines.specs.Word.{digit_fed}
-use borrow.Author.Rules.{rules}
 use Rattle.lines.proofs.word.digit_fed.Goals as goal
 
 pub returns-then-byte-lt48 : goal.returns-then-byte-lt48

@@ -1,7 +1,6 @@
 -- The minus, or a first digit. Assumes nothing.
 use borrow.Author.Tests.{eq-eqb, ne_eqb}
 use Rattle.lines.specs.Word.{first_fed}
-use borrow.Author.Rules.{rules}
 use Rattle.lines.proofs.word.first_fed.Goals as goal
 
 pub returns-then-byte-eq45 : goal.returns-then-byte-eq45

@@ -1,6 +1,5 @@
 -- Above 214,748,364 the tenfold passes the limit; up to it the sum does not. Assumes nothing.
 use native.Mathlib.Omega.{arith}
-use borrow.Author.Rules.{rules}
 use Rattle.lines.specs.Word.{grown}
 use Rattle.lines.proofs.word.grown.Goals as goal
 

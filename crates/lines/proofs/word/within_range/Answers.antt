@@ -2,7 +2,6 @@
 use borrow.Author.Tests.{le-leb, lt-leb}
 use Rattle.lines.specs.Number.{ranged}
 use Rattle.lines.proofs.SignedLaws.{difference_fits, negated_fits, negated, kept}
-use borrow.Author.Rules.{rules}
 use Rattle.lines.proofs.word.within_range.Goals as goal
 
 pub returns-then-magnitude-gt2147483648 : goal.returns-then-magnitude-gt2147483648

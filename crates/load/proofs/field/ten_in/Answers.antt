@@ -1,7 +1,6 @@
 -- The ten elements, read one by one. Assumes nothing.
 use mathlib.Core.Path.{refl}
 use Rattle.numbers.proofs.LittleLaws.{ten_are}
-use borrow.Author.Rules.{rules}
 use Rattle.load.proofs.field.ten_in.Goals as goal
 
 pub returns : goal.returns

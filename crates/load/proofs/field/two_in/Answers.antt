@@ -1,7 +1,6 @@
 -- The number in two halves. Assumes nothing.
 use native.Mathlib.Omega.{arith}
 use Rattle.numbers.proofs.LittleLaws.{number_split}
-use borrow.Author.Rules.{rules}
 use Rattle.load.proofs.field.two_in.Goals as goal
 
 pub returns : goal.returns

@@ -1,6 +1,5 @@
 -- The parts of one gauge. Assumes nothing.
 use Rattle.gauge.proofs.GaugeLaws.{gauge_alike}
-use borrow.Author.Rules.{rules}
 use Rattle.load.proofs.load.decoded.Goals as goal
 
 pub returns : goal.returns

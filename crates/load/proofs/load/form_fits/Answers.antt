@@ -1,6 +1,5 @@
 -- The newest form's own number and length. Assumes nothing.
 use Rattle.load.proofs.LoadLaws.{newest_fits}
-use borrow.Author.Rules.{rules}
 use Rattle.load.proofs.load.form_fits.Goals as goal
 
 pub returns : goal.returns

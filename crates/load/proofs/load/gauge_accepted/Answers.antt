@@ -5,7 +5,6 @@ use Rattle.counters.specs.Counters.{counters_accepted}
 use Rattle.gauge.proofs.AcceptedLaws.{last_test, no_charge, no_sample_lem, no_settings, no_standby}
 use Rattle.load.specs.Load.{decoded_gauge}
 use Rattle.load.proofs.PartsLaws.{charge_tested, sample_tested, settings_tested, standby_tested}
-use borrow.Author.Rules.{rules}
 use Rattle.load.proofs.load.gauge_accepted.Goals as goal
 
 pub returns-then-not-accepted : goal.returns-then-not-accepted

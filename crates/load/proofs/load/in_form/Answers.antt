@@ -1,6 +1,5 @@
 -- Each way answers what its tests pick. Assumes nothing.
 use Rattle.load.proofs.LoadLaws.{flags_tested, not_form, not_length}
-use borrow.Author.Rules.{rules}
 use Rattle.load.proofs.load.in_form.Goals as goal
 
 pub returns-then-bytes-length : goal.returns-then-bytes-length

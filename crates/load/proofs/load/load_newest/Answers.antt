@@ -3,7 +3,6 @@ use mathlib.Core.Path.{◌∙◌, sym}
 use borrow.Author.Tests.{not-true, not-false}
 use Rattle.load.proofs.LoadLaws.{decoded_is, misfit_loads, value_loads}
 use Rattle.form.specs.Form.{newest}
-use borrow.Author.Rules.{rules}
 use Rattle.load.proofs.load.load_newest.Goals as goal
 
 pub returns-then-not-form_fits : goal.returns-then-not-form_fits

@@ -2,7 +2,6 @@
 use mathlib.Core.Path.{◌∙◌, sym}
 use borrow.Author.Tests.{not-true, not-false}
 use Rattle.load.proofs.LoadLaws.{value_accepted, value_rejected}
-use borrow.Author.Rules.{rules}
 use Rattle.load.proofs.load.unless_rejected.Goals as goal
 
 pub returns-then-not-accepted : goal.returns-then-not-accepted

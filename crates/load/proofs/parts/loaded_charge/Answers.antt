@@ -7,7 +7,6 @@ use Rattle.flags.specs.Byte.{vdq_of}
 use Rattle.grains.proofs.RunLaws.{run_alike}
 use Rattle.load.specs.Fields.{charge_from, gauge_from}
 use Rattle.load.specs.Load.{read_in}
-use borrow.Author.Rules.{rules}
 use Rattle.load.proofs.parts.loaded_charge.Goals as goal
 
 pub returns-then-bytes-ne-SAVED_LENGTH : goal.returns-then-bytes-ne-SAVED_LENGTH

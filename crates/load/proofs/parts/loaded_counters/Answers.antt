@@ -8,7 +8,6 @@ use Rattle.counters.specs.Counters.{opened_counters}
 use Rattle.counters.specs.Cycles.{no_cycles}
 use Rattle.load.specs.Fields.{counters_from, gauge_from}
 use Rattle.load.specs.Load.{read_in}
-use borrow.Author.Rules.{rules}
 use Rattle.load.proofs.parts.loaded_counters.Goals as goal
 
 pub returns-then-bytes-ne-SAVED_LENGTH : goal.returns-then-bytes-ne-SAVED_LENGTH

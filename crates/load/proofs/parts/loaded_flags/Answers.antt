@@ -5,7 +5,6 @@ use Rattle.load.proofs.LoadLaws.{decoded_whole, other_decoded}
 use Rattle.flags.specs.Byte.{flags_of}
 use Rattle.load.specs.Fields.{gauge_from}
 use Rattle.load.specs.Load.{read_in}
-use borrow.Author.Rules.{rules}
 use Rattle.load.proofs.parts.loaded_flags.Goals as goal
 
 pub returns-then-bytes-ne-SAVED_LENGTH : goal.returns-then-bytes-ne-SAVED_LENGTH

@@ -7,7 +7,6 @@ use Rattle.load.specs.Fields.{gauge_from, sample_from}
 use Rattle.load.specs.Load.{read_in}
 use Rattle.sample.proofs.SampleLaws.{sample_alike}
 use Rattle.sample.specs.Sample.{no_sample}
-use borrow.Author.Rules.{rules}
 use Rattle.load.proofs.parts.loaded_sample.Goals as goal
 
 pub returns-then-bytes-ne-SAVED_LENGTH : goal.returns-then-bytes-ne-SAVED_LENGTH

@@ -4,7 +4,6 @@ use Rattle.gauge.specs.declared.state.Gauge.{Gauge}
 use Rattle.load.proofs.LoadLaws.{decoded_whole, other_decoded}
 use Rattle.load.specs.Fields.{gauge_from}
 use Rattle.load.specs.Load.{read_in}
-use borrow.Author.Rules.{rules}
 use Rattle.load.proofs.parts.loaded_standby.Goals as goal
 
 pub returns-then-bytes-ne-SAVED_LENGTH : goal.returns-then-bytes-ne-SAVED_LENGTH

@@ -23,8 +23,8 @@ pub returns-then-pair-eq5 : goal.returns-then-pair-eq5
 unfolding register look_up rows
 returns-then-pair-eq5 c =
     c.pair_of.ensures
-    ∙ shows_bytes c.args.gauge c.if-pair-eq5.true c.flags_byte-flags.ensures c.rsoc.ensures c.flags_byte-flags.type-inv
-    c.rsoc.type-inv refl
+    ∙ shows_bytes c.args.gauge c.if-pair-eq5.true c.flags_byte-flags.ensures c.rsoc.ensures c.flags_byte-flags.type_inv
+    c.rsoc.type_inv refl
 
 pub nac-requires : goal.nac-requires
 nac-requires c = c.requires.0
@@ -32,7 +32,7 @@ nac-requires c = c.requires.0
 pub returns-then-pair-eq6 : goal.returns-then-pair-eq6
 unfolding register look_up rows
 returns-then-pair-eq6 c =
-    shows_pair c.args.gauge c.if-pair-eq6.true c.nac.ensures.value c.nac.type-inv refl
+    shows_pair c.args.gauge c.if-pair-eq6.true c.nac.ensures.value c.nac.type_inv refl
 
 pub returns-then-pair-eq7 : goal.returns-then-pair-eq7
 unfolding register look_up rows
@@ -44,7 +44,7 @@ cac-requires c = c.requires.0
 pub returns-then-pair-eq8 : goal.returns-then-pair-eq8
 unfolding register look_up rows
 returns-then-pair-eq8 c =
-    shows_pair c.args.gauge c.if-pair-eq8.true c.cac.ensures c.cac.type-inv refl
+    shows_pair c.args.gauge c.if-pair-eq8.true c.cac.ensures c.cac.type_inv refl
 
 pub fcac-requires : goal.fcac-requires
 fcac-requires c = tt
@@ -53,4 +53,4 @@ pub returns : goal.returns
 unfolding register look_up rows
 returns c =
     let last = last_of_five 5 c.requires.1 c.requires.2 c.if-pair-eq5.false c.if-pair-eq6.false c.if-pair-eq7.false c.if-pair-eq8.false in
-    shows_pair c.args.gauge last c.fcac.ensures c.fcac.type-inv refl
+    shows_pair c.args.gauge last c.fcac.ensures c.fcac.type_inv refl

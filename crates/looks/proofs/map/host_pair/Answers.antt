@@ -37,7 +37,7 @@ artte-requires c = c.requires.0
 pub returns-then-pair-eq2 : goal.returns-then-pair-eq2
 unfolding register look_up rows
 returns-then-pair-eq2 c =
-    shows_pair c.args.gauge c.if-pair-eq2.true c.artte.ensures c.artte.type-inv refl
+    shows_pair c.args.gauge c.if-pair-eq2.true c.artte.ensures c.artte.type_inv refl
 
 pub returns-then-pair-eq3 : goal.returns-then-pair-eq3
 unfolding register look_up rows

@@ -29,7 +29,7 @@ e1-requires c = tt
 pub returns-then-pair-eq16 : goal.returns-then-pair-eq16
 unfolding register look_up rows
 returns-then-pair-eq16 c =
-    shows_pair c.args.gauge c.if-pair-eq16.true c.e1.ensures c.e1.type-inv refl
+    shows_pair c.args.gauge c.if-pair-eq16.true c.e1.ensures c.e1.type_inv refl
 
 pub returns-then-pair-eq21 : goal.returns-then-pair-eq21
 unfolding register look_up rows

@@ -1,5 +1,4 @@
 -- At an odd address the high byte, at an even one the low byte or both. Assumes nothing.
-use borrow.Author.Rules.{rules}
 use Rattle.looks.proofs.CopyLaws.{both_stored, high_stored, low_stored, two_long}
 use Rattle.looks.proofs.reading.copy_pair.Goals as goal
 

@@ -6,7 +6,6 @@ use Rattle.gauge.specs.declared.state.Gauge.{Gauge}
 use Rattle.load.specs.Load.{decoded_gauge}
 use Rattle.registers.specs.Map.{pair_at}
 use Rattle.looks.proofs.CopyLaws.{copied_middle, pair_copied, pair_inside, whole_copied}
-use borrow.Author.Rules.{rules}
 use Rattle.looks.proofs.reading.copy_registers.Goals as goal
 
 pub pair_at-requires : goal.pair_at-requires
@@ -26,4 +25,4 @@ returns-then-part-eq-REGISTER_COUNT c =
 pub returns : goal.returns
 returns c =
     let a = c.args in
-    copied_middle (decoded_gauge a.saved.now) a.address _ a.part.now _ c.put_registers-2.ensures c.requires.3 c.put_front.ensures.1
+    copied_middle (decoded_gauge a.saved.now) a.address _ a.part.now _ c.put_registers-2.ensures c.requires.3 c.put_front.ensures

@@ -24,10 +24,12 @@ fits c =
 pub returns-then-number-ne-NONE : goal.returns-then-number-ne-NONE
 returns-then-number-ne-NONE c =
     let a = c.args in
-    read_unsaved a.gauge a.address a.count a.place a.reply.now (replicate saved_length 0) refl c.save-number.ensures.number c.if-number-ne-NONE.true
+    let p = read_unsaved a.gauge a.address a.count a.place a.reply.now (replicate saved_length 0) refl c.save-number.ensures.number c.if-number-ne-NONE.true in
+    record { number = p.0; bytes = p.1 }
 
 pub returns : goal.returns
 returns c =
     let a = c.args in
-    read_saved a.gauge a.address a.count a.place a.reply.now (replicate saved_length 0) refl (fits (goal.at.returns c).Start)
-    c.save-number.ensures.number c.if-number-ne-NONE.false c.save-number.ensures.bytes c.read_in.ensures
+    let p = read_saved a.gauge a.address a.count a.place a.reply.now (replicate saved_length 0) refl (fits (goal.at.returns c).Start)
+    c.save-number.ensures.number c.if-number-ne-NONE.false c.save-number.ensures.bytes (c.read_in.ensures.number, c.read_in.ensures.bytes) in
+    record { number = p.0; bytes = p.1 }

@@ -1,5 +1,4 @@
 -- The quotient of the calls. Assumes nothing.
-use borrow.Author.Rules.{rules}
 use Rattle.looks.proofs.TimesLaws.{stte_is}
 use Rattle.looks.proofs.times.stte.Goals as goal
 

@@ -1,6 +1,5 @@
 -- The byte is its own lowest. Assumes nothing.
 use Rattle.looks.proofs.WholeLaws.{byte_stored}
-use borrow.Author.Rules.{rules}
 use Rattle.looks.proofs.whole.put_byte.Goals as goal
 
 pub returns : goal.returns

@@ -2,7 +2,6 @@
 use Rattle.looks.proofs.TimesLaws.{artte_is, stte_is, tte_is, ttf_is}
 use Rattle.looks.proofs.ValuesLaws.{cac_of, capacity_learned, fcac_is, rsoc_is}
 use Rattle.looks.proofs.WholeLaws.{computed_stored}
-use borrow.Author.Rules.{rules}
 use Rattle.looks.proofs.whole.put_computed.Goals as goal
 
 pub rsoc_of-rsoc-requires : goal.rsoc_of-rsoc-requires

@@ -1,6 +1,5 @@
 -- Each pair is that of its two bytes, stored one after the other. Assumes nothing.
 use Rattle.looks.proofs.WholeLaws.{configured_stored}
-use borrow.Author.Rules.{rules}
 use Rattle.looks.proofs.whole.put_configuration.Goals as goal
 
 pub returns : goal.returns

@@ -1,6 +1,5 @@
 -- What is copied is in the gauge; flags, SI and CEDV are those of the calls. Assumes nothing.
 use Rattle.looks.proofs.WholeLaws.{copied_stored}
-use borrow.Author.Rules.{rules}
 use Rattle.looks.proofs.whole.put_copied.Goals as goal
 
 pub returns : goal.returns

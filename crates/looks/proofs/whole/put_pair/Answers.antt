@@ -1,5 +1,4 @@
 -- The two bytes are those of the number, of which nothing is left. Assumes nothing.
-use borrow.Author.Rules.{rules}
 use Rattle.looks.proofs.WholeLaws.{pair_stored}
 use Rattle.looks.proofs.whole.put_pair.Goals as goal
 

@@ -1,6 +1,5 @@
 -- The stores, one after the other. Assumes nothing.
 use Rattle.looks.proofs.WholeLaws.{standing_stored}
-use borrow.Author.Rules.{rules}
 use Rattle.looks.proofs.whole.store_standing.Goals as goal
 
 pub returns : goal.returns

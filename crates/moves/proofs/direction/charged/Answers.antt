@@ -1,6 +1,5 @@
 -- Each part, loaded, moved and put. Assumes nothing.
 use Rattle.moves.proofs.DirectionLaws.{charged_moved}
-use borrow.Author.Rules.{rules}
 use Rattle.moves.proofs.direction.charged.Goals as goal
 
 pub returns : goal.returns

@@ -3,7 +3,6 @@ use mathlib.Core.Path.{ap, ◌∙◌}
 use Rattle.counters.specs.Counters.{counters_moved}
 use Rattle.counters.specs.declared.counters.Counters.{Counters}
 use Rattle.saved.specs.Put.{counters_put}
-use borrow.Author.Rules.{rules}
 use Rattle.moves.proofs.direction.count.Goals as goal
 
 pub returns : goal.returns

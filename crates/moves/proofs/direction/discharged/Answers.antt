@@ -5,7 +5,6 @@ use Rattle.form.specs.Form.{newest}
 use Rattle.load.proofs.LoadLaws.{form_length}
 use Rattle.saved.proofs.SaveLaws.{saved_length_lem}
 use Rattle.moves.proofs.DirectionLaws.{discharged_moved}
-use borrow.Author.Rules.{rules}
 use Rattle.moves.proofs.direction.discharged.Goals as goal
 
 pub returns : goal.returns
@@ -18,4 +17,4 @@ returns c =
 
 pub shape_of-saved : goal.shape_of-saved
 shape_of-saved c =
-    ap length (returns c) ∙ saved_length_lem _ ∙ sym (form_length newest c.args.saved.now c.pre)
+    ap length (returns c) ∙ saved_length_lem _ ∙ sym (form_length newest c.args.saved.now c.requires)

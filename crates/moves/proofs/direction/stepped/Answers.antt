@@ -5,7 +5,6 @@ use Rattle.gauge.specs.Window.{window}
 use Rattle.load.specs.Load.{decoded_gauge}
 use Rattle.sample.specs.declared.current.Current.{Current}
 use Rattle.saved.specs.Save.{saved_bytes}
-use borrow.Author.Rules.{rules}
 use Rattle.moves.proofs.direction.stepped.Goals as goal
 
 pub returns-then-current-eq0 : goal.returns-then-current-eq0

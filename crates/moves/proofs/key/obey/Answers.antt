@@ -1,6 +1,5 @@
 -- Each arm is its kind's. Assumes nothing.
 use Rattle.moves.proofs.KeyLaws.{obeyed_reset, obeyed_setting}
-use borrow.Author.Rules.{rules}
 use Rattle.moves.proofs.key.obey.Goals as goal
 
 pub returns-in-Setting : goal.returns-in-Setting

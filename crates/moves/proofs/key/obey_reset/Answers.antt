@@ -1,6 +1,5 @@
 -- Each part, loaded, obeyed and put. Assumes nothing.
 use Rattle.moves.proofs.KeyLaws.{reset_obeyed}
-use borrow.Author.Rules.{rules}
 use Rattle.moves.proofs.key.obey_reset.Goals as goal
 
 pub returns : goal.returns

@@ -1,6 +1,5 @@
 -- Each part that a setting moves, loaded, obeyed and put. Assumes nothing.
 use Rattle.moves.proofs.KeyLaws.{setting_obeyed}
-use borrow.Author.Rules.{rules}
 use Rattle.moves.proofs.key.obey_setting.Goals as goal
 
 pub returns : goal.returns

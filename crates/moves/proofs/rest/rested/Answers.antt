@@ -1,6 +1,5 @@
 -- Each part, loaded, moved and put. Assumes nothing.
 use Rattle.moves.proofs.RestLaws.{rested_moved}
-use borrow.Author.Rules.{rules}
 use Rattle.moves.proofs.rest.rested.Goals as goal
 
 pub returns : goal.returns

@@ -16,43 +16,47 @@ use Rattle.sample.specs.declared.current.Current.{Current}
 use Rattle.saved.proofs.CallLaws.{misfit}
 use Rattle.moves.proofs.CallLaws.{moves, refuses, window_rejects}
 use Rattle.moves.proofs.DirectionLaws.{counted_none}
-use borrow.Author.Rules.{rules}
 use Rattle.moves.proofs.window.window.Goals as goal
 
 pub returns-then-not-form_fits : goal.returns-then-not-form_fits
 returns-then-not-form_fits c =
     let a = c.args in
-    misfit a.saved.now (λ g. window_answer g a.a a.v a.t) (sym c.form_fits.ensures ∙ not-true _ c.if-not-form_fits.true-raw)
+    let p = misfit a.saved.now (λ g. window_answer g a.a a.v a.t) (sym c.form_fits.ensures ∙ not-true _ c.if-not-form_fits.true-raw) in
+    record { number = p.0; bytes = p.1 }
 
 pub returns-then-not-gauge_accepted : goal.returns-then-not-gauge_accepted
 returns-then-not-gauge_accepted c =
     let a = c.args in
-    refuses a.saved.now (λ g. window_answer g a.a a.v a.t) (window_rejects a.a a.v a.t) (sym c.form_fits.ensures ∙ not-false _ c.if-not-form_fits.false-raw)
-    (window_rejected (decoded_gauge a.saved.now) a.a a.v a.t (sym c.gauge_accepted.ensures ∙ not-true _ c.if-not-gauge_accepted.true-raw)) (λ z. omega arith)
+    let p = refuses a.saved.now (λ g. window_answer g a.a a.v a.t) (window_rejects a.a a.v a.t) (sym c.form_fits.ensures ∙ not-false _ c.if-not-form_fits.false-raw)
+    (window_rejected (decoded_gauge a.saved.now) a.a a.v a.t (sym c.gauge_accepted.ensures ∙ not-true _ c.if-not-gauge_accepted.true-raw)) (λ z. omega arith) in
+    record { number = p.0; bytes = p.1 }
 
 pub returns-then-not-current_in_range : goal.returns-then-not-current_in_range
 returns-then-not-current_in_range c =
     let a = c.args in
-    refuses a.saved.now (λ g. window_answer g a.a a.v a.t) (window_rejects a.a a.v a.t) (sym c.form_fits.ensures ∙ not-false _ c.if-not-form_fits.false-raw)
+    let p = refuses a.saved.now (λ g. window_answer g a.a a.v a.t) (window_rejects a.a a.v a.t) (sym c.form_fits.ensures ∙ not-false _ c.if-not-form_fits.false-raw)
     (window_current (decoded_gauge a.saved.now) a.a a.v a.t (sym c.gauge_accepted.ensures ∙ not-false _ c.if-not-gauge_accepted.false-raw)
-    (sym (c.current_in_range.ensures ∙ ap current_in_range (narrow _ c.ranges.a)) ∙ not-true _ c.if-not-current_in_range.true-raw)) (λ z. omega arith)
+    (sym (c.current_in_range.ensures ∙ ap current_in_range (narrow _ c.ranges.a)) ∙ not-true _ c.if-not-current_in_range.true-raw)) (λ z. omega arith) in
+    record { number = p.0; bytes = p.1 }
 
 pub returns-then-not-voltage_in_range : goal.returns-then-not-voltage_in_range
 returns-then-not-voltage_in_range c =
     let a = c.args in
-    refuses a.saved.now (λ g. window_answer g a.a a.v a.t) (window_rejects a.a a.v a.t) (sym c.form_fits.ensures ∙ not-false _ c.if-not-form_fits.false-raw)
+    let p = refuses a.saved.now (λ g. window_answer g a.a a.v a.t) (window_rejects a.a a.v a.t) (sym c.form_fits.ensures ∙ not-false _ c.if-not-form_fits.false-raw)
     (window_voltage (decoded_gauge a.saved.now) a.a a.v a.t (sym c.gauge_accepted.ensures ∙ not-false _ c.if-not-gauge_accepted.false-raw)
     (sym (c.current_in_range.ensures ∙ ap current_in_range (narrow _ c.ranges.a)) ∙ not-false _ c.if-not-current_in_range.false-raw)
-    (sym (c.voltage_in_range.ensures ∙ ap voltage_in_range (narrow _ c.ranges.v)) ∙ not-true _ c.if-not-voltage_in_range.true-raw)) (λ z. omega arith)
+    (sym (c.voltage_in_range.ensures ∙ ap voltage_in_range (narrow _ c.ranges.v)) ∙ not-true _ c.if-not-voltage_in_range.true-raw)) (λ z. omega arith) in
+    record { number = p.0; bytes = p.1 }
 
 pub returns-then-not-temperature_in_range : goal.returns-then-not-temperature_in_range
 returns-then-not-temperature_in_range c =
     let a = c.args in
-    refuses a.saved.now (λ g. window_answer g a.a a.v a.t) (window_rejects a.a a.v a.t) (sym c.form_fits.ensures ∙ not-false _ c.if-not-form_fits.false-raw)
+    let p = refuses a.saved.now (λ g. window_answer g a.a a.v a.t) (window_rejects a.a a.v a.t) (sym c.form_fits.ensures ∙ not-false _ c.if-not-form_fits.false-raw)
     (window_temperature (decoded_gauge a.saved.now) a.a a.v a.t (sym c.gauge_accepted.ensures ∙ not-false _ c.if-not-gauge_accepted.false-raw)
     (sym (c.current_in_range.ensures ∙ ap current_in_range (narrow _ c.ranges.a)) ∙ not-false _ c.if-not-current_in_range.false-raw)
     (sym (c.voltage_in_range.ensures ∙ ap voltage_in_range (narrow _ c.ranges.v)) ∙ not-false _ c.if-not-voltage_in_range.false-raw)
-    (sym (c.temperature_in_range.ensures ∙ ap temperature_in_range (narrow _ c.ranges.t)) ∙ not-true _ c.if-not-temperature_in_range.true-raw)) (λ z. omega arith)
+    (sym (c.temperature_in_range.ensures ∙ ap temperature_in_range (narrow _ c.ranges.t)) ∙ not-true _ c.if-not-temperature_in_range.true-raw)) (λ z. omega arith) in
+    record { number = p.0; bytes = p.1 }
 
 pub stepped-requires : goal.stepped-requires
 stepped-requires c =
@@ -72,8 +76,9 @@ returns c =
     (c.voltage.ensures ∙ ap voltage (narrow _ c.ranges.v))
     ∙ ap (λ (y : ℕ). window (counted (dmf g.settings) (current a.a)) (voltage a.v) y g)
     (c.temperature.ensures ∙ ap temperature (narrow _ c.ranges.t)) in
-    moves a.saved.now (λ g. window_answer g a.a a.v a.t) (window_rejects a.a a.v a.t) (sym c.form_fits.ensures ∙ not-false _ c.if-not-form_fits.false-raw)
+    let p = moves a.saved.now (λ g. window_answer g a.a a.v a.t) (window_rejects a.a a.v a.t) (sym c.form_fits.ensures ∙ not-false _ c.if-not-form_fits.false-raw)
     (window_done g a.a a.v a.t (sym c.gauge_accepted.ensures ∙ not-false _ c.if-not-gauge_accepted.false-raw)
     (sym (c.current_in_range.ensures ∙ ap current_in_range (narrow _ c.ranges.a)) ∙ not-false _ c.if-not-current_in_range.false-raw)
     (sym (c.voltage_in_range.ensures ∙ ap voltage_in_range (narrow _ c.ranges.v)) ∙ not-false _ c.if-not-voltage_in_range.false-raw)
-    (sym (c.temperature_in_range.ensures ∙ ap temperature_in_range (narrow _ c.ranges.t)) ∙ not-false _ c.if-not-temperature_in_range.false-raw) e) c.stepped.ensures
+    (sym (c.temperature_in_range.ensures ∙ ap temperature_in_range (narrow _ c.ranges.t)) ∙ not-false _ c.if-not-temperature_in_range.false-raw) e) c.stepped.ensures in
+    record { number = p.0; bytes = p.1 }

@@ -1,6 +1,5 @@
 -- The entry of the stored table is the rule's. Assumes nothing.
 use Rattle.permille.proofs.EntryLaws.{entry_is, entry_most}
-use borrow.Author.Rules.{rules}
 use Rattle.permille.proofs.table.entry.Goals as goal
 
 pub returns : goal.returns

@@ -7,7 +7,6 @@ use Rattle.numbers.proofs.SignedLaws.{narrow}
 use Rattle.numbers.specs.Signed.{at_least_zero}
 use Rattle.permille.proofs.TableLaws.{high_enough, too_low}
 use Rattle.permille.specs.Table.{first_voltage, last_voltage}
-use borrow.Author.Rules.{rules}
 use Rattle.permille.proofs.table.in_table.Goals as goal
 use Rattle.permille.proofs.table.in_table.Goals.{After-at_least_zero-value}
 

@@ -9,7 +9,6 @@ use Rattle.numbers.specs.Signed.{at_least_zero}
 use Rattle.permille.proofs.TableLaws.{from_first, has_entry, no_permille, permille_is}
 use Rattle.permille.specs.Rule.{rule}
 use Rattle.permille.specs.Table.{entry_of, entry_voltage, in_table}
-use borrow.Author.Rules.{rules}
 use Rattle.permille.proofs.table.permille.Goals as goal
 use Rattle.permille.proofs.table.permille.Goals.{After-at_least_zero, After-in_table}
 
@@ -17,8 +16,8 @@ tested : (c : After-in_table) → c.in_table.result ≡ in_table c.args.voltage
 tested c = c.in_table.ensures ∙ ap in_table (narrow _ c.ranges.voltage)
 
 module _ (c : After-at_least_zero) where
-  voltage-in : in_table c.args.voltage ≡ true
-  voltage-in = sym (tested c) ∙ not-false _ c.if-not-in_table.false-raw
+  voltage_in : in_table c.args.voltage ≡ true
+  voltage_in = sym (c.in_table.ensures ∙ ap in_table (narrow _ c.ranges.voltage)) ∙ not-false _ c.if-not-in_table.false-raw
 
   value : c.at_least_zero.result ≡ at_least_zero c.args.voltage
   value = c.at_least_zero.ensures ∙ ap at_least_zero (narrow _ c.ranges.voltage)
@@ -32,19 +31,19 @@ returns-then-not-in_table c =
 
 pub overflow_sub-at_least_zero : goal.overflow_sub-at_least_zero
 overflow_sub-at_least_zero c =
-    let v = value c in
-    let h = from_first _ (voltage-in c) in
+    let v = value (goal.at.overflow_sub-at_least_zero c).After-at_least_zero in
+    let h = from_first _ (voltage_in (goal.at.overflow_sub-at_least_zero c).After-at_least_zero) in
     omega arith
 
 pub entry-requires : goal.entry-requires
 entry-requires c =
-    let v = value c in
-    let h = has_entry _ (voltage-in c) in
+    let v = value (goal.at.entry-requires c).After-at_least_zero in
+    let h = has_entry _ (voltage_in (goal.at.entry-requires c).After-at_least_zero) in
     omega arith
 
 pub returns : goal.returns
 returns c =
     record {
-      value = permille_is _ (voltage-in p) (c.entry.ensures.value ∙ ap (λ (n : ℕ). rule (entry_voltage (entry_of n))) (value p));
+      value = permille_is _ (voltage_in (goal.at.returns c).After-at_least_zero) (c.entry.ensures.value ∙ ap (λ (n : ℕ). rule (entry_voltage (entry_of n))) (value (goal.at.returns c).After-at_least_zero));
       most = c.entry.ensures.most;
     }

@@ -1,10 +1,9 @@
 -- The leak at the rate of the settings, then the current. Assumes nothing.
-use mathlib.Core.Path.{◌≡◌, ap, ◌∙◌}
+use mathlib.Core.Path.{ap, ◌∙◌}
 use Prim.Native.Nat.{ℕ}
 use Rattle.charge.specs.Charge.{leaked, moved}
 use Rattle.grains.specs.Leak.{leak_rate}
 use Rattle.reached.specs.ChargeAfter.{summed}
-use borrow.Author.Rules.{rules}
 use Rattle.reached.proofs.charge_after.summed.Goals as goal
 
 pub returns : goal.returns

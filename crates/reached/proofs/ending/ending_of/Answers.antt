@@ -1,11 +1,10 @@
 -- Each way returns the case that its tests pick; a voltage above E1 is above EDVF too. Assumes nothing.
 use Prim.Native.Nat.{◌<◌, ◌≤◌}
-use mathlib.Core.Path.{◌≡◌, ◌∙◌, sym}
+use mathlib.Core.Path.{◌∙◌, sym}
 use native.Mathlib.Omega.{arith}
 use borrow.Author.Tests.{le-leb, lt-leb, eq-eqb, ne_eqb, not-true, not-false}
 use Rattle.reached.specs.Ending.{ending_of}
 use Rattle.configuration.specs.Configuration.{edvf, e1}
-use borrow.Author.Rules.{rules}
 use Rattle.reached.proofs.ending.ending_of.Goals as goal
 
 pub returns-then-discharge-eq0 : goal.returns-then-discharge-eq0

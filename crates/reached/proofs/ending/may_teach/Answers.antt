@@ -4,9 +4,8 @@ use mathlib.Core.Path.{ap}
 use native.Mathlib.Omega.{arith}
 use lib.Dec.{ltb}
 use borrow.Author.Tests.{le-leb, lt-leb}
-use borrow.Author.Rules.{rules}
 use Rattle.reached.specs.Ending.{may_teach}
-use Rattle.configuration.specs.Configuration.{cold_threshold, s0}
+use Rattle.configuration.specs.Configuration.{cold_threshold}
 use Rattle.reached.proofs.ending.may_teach.Goals as goal
 
 pub returns-then-temperature-cold_threshold : goal.returns-then-temperature-cold_threshold

@@ -1,9 +1,7 @@
 -- Each way returns what its tests pick. Assumes nothing.
 use Prim.Native.Nat.{◌*◌, ◌<◌, ◌≤◌}
-use mathlib.Core.Path.{◌≡◌}
 use native.Mathlib.Omega.{arith}
 use borrow.Author.Tests.{le-leb, lt-leb, not-true, not-false}
-use borrow.Author.Rules.{rules}
 use Rattle.reached.specs.Full.{is_full}
 use Rattle.configuration.specs.Configuration.{taper}
 use Rattle.grains.specs.Grains.{grains_of_counts}

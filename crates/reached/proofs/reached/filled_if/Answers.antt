@@ -1,6 +1,5 @@
 -- Each way returns the case that its test picks. Assumes nothing.
 use Rattle.reached.specs.Reached.{filled_if}
-use borrow.Author.Rules.{rules}
 use Rattle.reached.proofs.reached.filled_if.Goals as goal
 
 pub returns-then-full : goal.returns-then-full

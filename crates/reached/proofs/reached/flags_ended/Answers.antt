@@ -1,6 +1,5 @@
 -- Each arm returns the clause of the definition at its case. Assumes nothing.
 use Rattle.reached.specs.Reached.{flags_ended}
-use borrow.Author.Rules.{rules}
 use Rattle.reached.proofs.reached.flags_ended.Goals as goal
 
 pub returns-in-Above : goal.returns-in-Above

@@ -8,7 +8,6 @@ use borrow.Author.Tests.{le-leb, lt-leb}
 use Rattle.numbers.specs.Signed.{at_least_zero}
 use Rattle.sample.proofs.RangeLaws.{between_is}
 use Rattle.numbers.proofs.SignedLaws.{narrow}
-use borrow.Author.Rules.{rules}
 use Rattle.sample.proofs.range.between.Goals as goal
 use Rattle.sample.proofs.range.between.Goals.{After-at_least_zero-value}
 

@@ -1,15 +1,13 @@
 -- Each way returns the case that its tests pick, told of the number itself by what `take_apart` ensures. Assumes nothing.
 use Prim.Native.Nat.{◌<◌, ◌≤◌}
-use mathlib.Core.Bool.{true, false}
 use mathlib.Core.Path.{◌≡◌, ap, sym, ◌∙◌}
 use native.Mathlib.Omega.{arith}
 use borrow.Author.Tests.{le-leb, lt-leb}
 use Rattle.sample.specs.Limits.{most_current}
 use Rattle.sample.specs.Range.{current_in_range}
-use Rattle.numbers.specs.Signed.{negative, magnitude, taken_apart}
+use Rattle.numbers.specs.Signed.{magnitude, taken_apart}
 use Rattle.numbers.specs.declared.signed.Signed.{Signed}
 use Rattle.numbers.proofs.SignedLaws.{narrow}
-use borrow.Author.Rules.{rules}
 use Rattle.sample.proofs.range.current.Goals as goal
 use Rattle.sample.proofs.range.current.Goals.{After-take_apart-apart}
 

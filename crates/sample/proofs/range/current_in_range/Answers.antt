@@ -1,13 +1,11 @@
 -- The test of the number's magnitude. Assumes nothing.
-use Prim.Native.Nat.{ℕ}
-use mathlib.Core.Path.{◌≡◌, ap, ◌∙◌}
+use mathlib.Core.Path.{ap, ◌∙◌}
 use lib.Dec.{leb}
 use Rattle.sample.specs.Limits.{most_current}
 use Rattle.sample.specs.Range.{current_in_range}
 use Rattle.numbers.specs.Signed.{taken_apart}
 use Rattle.numbers.specs.declared.signed.Signed.{Signed}
 use Rattle.numbers.proofs.SignedLaws.{narrow}
-use borrow.Author.Rules.{rules}
 use Rattle.sample.proofs.range.current_in_range.Goals as goal
 
 pub returns : goal.returns

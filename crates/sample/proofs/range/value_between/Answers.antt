@@ -1,6 +1,4 @@
 -- A number between its limits is not below 0 and fits. Assumes nothing.
-use Prim.Native.Nat.{◌≤◌}
-use mathlib.Core.Bool.{true}
 use mathlib.Core.Path.{◌≡◌, ap, sym, ◌∙◌}
 use native.Mathlib.Omega.{arith}
 use borrow.Author.Tests.{not-true, not-false}
@@ -8,7 +6,6 @@ use Rattle.sample.specs.Range.{between, value_between}
 use Rattle.numbers.specs.Signed.{at_least_zero}
 use Rattle.sample.proofs.RangeLaws.{value_is, value_low}
 use Rattle.numbers.proofs.SignedLaws.{narrow}
-use borrow.Author.Rules.{rules}
 use Rattle.sample.proofs.range.value_between.Goals as goal
 use Rattle.sample.proofs.range.value_between.Goals.{After-at_least_zero, After-between}
 

@@ -2,7 +2,6 @@
 use mathlib.Core.Path.{ap, ◌∙◌}
 use Rattle.sample.specs.Range.{between}
 use Rattle.numbers.proofs.SignedLaws.{narrow}
-use borrow.Author.Rules.{rules}
 use Rattle.sample.proofs.range.voltage_in_range.Goals as goal
 
 pub returns : goal.returns

@@ -2,7 +2,6 @@
 use mathlib.Core.Path.{◌∙◌}
 use Rattle.saved.proofs.PutLaws.{put_done, put_kept}
 use Rattle.saved.specs.Put.{counters_put}
-use borrow.Author.Rules.{rules}
 use Rattle.saved.proofs.parts.put_counters.Goals as goal
 
 pub returns-then-bytes-ne-SAVED_LENGTH : goal.returns-then-bytes-ne-SAVED_LENGTH

@@ -1,8 +1,6 @@
 -- The fields, one after the other; bytes of another length keep. Assumes nothing.
-use mathlib.Core.Path.{◌∙◌}
 use Rattle.saved.proofs.PutLaws.{put_done, put_kept}
 use Rattle.saved.specs.Put.{standby_put}
-use borrow.Author.Rules.{rules}
 use Rattle.saved.proofs.parts.put_standby.Goals as goal
 
 pub returns-then-bytes-ne-SAVED_LENGTH : goal.returns-then-bytes-ne-SAVED_LENGTH

@@ -1,6 +1,5 @@
 -- Two times four bytes, the low ones first. Assumes nothing.
 use Rattle.saved.proofs.PutLaws.{parts_put_lem}
-use borrow.Author.Rules.{rules}
 use Rattle.saved.proofs.place.put_eight.Goals as goal
 
 pub returns : goal.returns

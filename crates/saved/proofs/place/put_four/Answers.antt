@@ -1,6 +1,5 @@
 -- Two pairs, the low one first. Assumes nothing.
 use Rattle.saved.proofs.PutLaws.{parts_put_lem}
-use borrow.Author.Rules.{rules}
 use Rattle.saved.proofs.place.put_four.Goals as goal
 
 pub returns : goal.returns

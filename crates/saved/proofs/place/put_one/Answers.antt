@@ -1,7 +1,6 @@
 -- One store. Assumes nothing.
 use native.Mathlib.Omega.{arith}
 use Rattle.saved.proofs.PutLaws.{one_put}
-use borrow.Author.Rules.{rules}
 use Rattle.saved.proofs.place.put_one.Goals as goal
 
 pub returns : goal.returns

@@ -2,7 +2,6 @@
 use native.Mathlib.Omega.{arith}
 use lib.ListN.{length-set}
 use Rattle.saved.proofs.PutLaws.{pair_put}
-use borrow.Author.Rules.{rules}
 use Rattle.saved.proofs.place.put_two.Goals as goal
 
 pub bounds-bytes-next : goal.bounds-bytes-next

@@ -1,6 +1,5 @@
 -- The parts, one after the other. Assumes nothing.
 use Rattle.saved.proofs.SaveLaws.{encoded_is}
-use borrow.Author.Rules.{rules}
 use Rattle.saved.proofs.save.encoded.Goals as goal
 
 pub returns : goal.returns

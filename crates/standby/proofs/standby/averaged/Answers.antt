@@ -2,7 +2,6 @@
 use Prim.Native.Nat.{◌*◌, ◌<◌, ◌≤◌}
 use native.Mathlib.Omega.{arith}
 use borrow.Author.Tests.{le-leb, lt-leb, eq-eqb, ne_eqb}
-use borrow.Author.Rules.{rules}
 use Rattle.configuration.specs.Configuration.{s0}
 use Rattle.standby.specs.Standby.{averaged}
 use Rattle.standby.proofs.standby.averaged.Goals as goal

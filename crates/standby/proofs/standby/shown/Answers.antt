@@ -1,6 +1,5 @@
 -- The quotient. Assumes nothing.
 use mathlib.Core.Path.{refl}
-use borrow.Author.Rules.{rules}
 use Rattle.standby.specs.Standby.{shown}
 use Rattle.standby.proofs.standby.shown.Goals as goal
 

@@ -2,7 +2,6 @@
 use mathlib.Core.Path.{ap}
 use Prim.Native.Nat.{ℕ, ◌*◌}
 use lib.Dec.{leb}
-use borrow.Author.Rules.{rules}
 use Rattle.standby.specs.Standby.{standby_accepted}
 use Rattle.standby.proofs.standby.standby_accepted.Goals as goal
 

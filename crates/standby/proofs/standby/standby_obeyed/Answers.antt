@@ -1,6 +1,5 @@
 -- Each arm returns the clause of the definition at its case. Assumes nothing.
 use Rattle.standby.specs.Standby.{standby_obeyed}
-use borrow.Author.Rules.{rules}
 use Rattle.standby.proofs.standby.standby_obeyed.Goals as goal
 
 pub returns-in-Setting : goal.returns-in-Setting

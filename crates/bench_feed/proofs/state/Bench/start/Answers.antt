@@ -16,9 +16,9 @@ opened a = record { gauge = a.gauge; place = First 0 }
 
 pub returns : goal.returns
 returns c =
-    let e = ap opened c.«open».ensures in
-    let whole : (input : List ℕ) → printed_from (opened c.«open».result) input ≡ printed input =
+    let e = ap opened c.open-opened.ensures in
+    let whole : (input : List ℕ) → printed_from (opened c.open-opened.result) input ≡ printed input =
     λ input. ap (λ (s : Bench). printed_from s input) e ∙ whole_input input in
-    let parts : (parts : List (List ℕ)) → printed_of (opened c.«open».result) parts ≡ printed (flatten parts) =
+    let parts : (parts : List (List ℕ)) → printed_of (opened c.open-opened.result) parts ≡ printed (flatten parts) =
     λ parts. ap (λ (s : Bench). printed_of s parts) e ∙ parts_of_input parts in
     record { value = e; whole = whole; parts = parts }

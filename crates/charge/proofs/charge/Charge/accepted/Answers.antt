@@ -4,7 +4,6 @@ use native.Mathlib.Omega.{arith}
 use borrow.Author.Tests.{le-leb, lt-leb, eq-eqb, ne_eqb}
 use Rattle.grains.specs.Grains.{grains_of_counts}
 use Rattle.charge.specs.Charge.{charge_accepted}
-use borrow.Author.Rules.{rules}
 use Rattle.charge.proofs.charge.Charge.accepted.Goals as goal
 
 pub returns-then-self-eq0 : goal.returns-then-self-eq0

@@ -2,7 +2,6 @@
 use mathlib.Core.Path.{refl}
 use Rattle.charge.specs.Charge.{emptied}
 use Rattle.charge.proofs.ChargeLaws.{charge_alike}
-use borrow.Author.Rules.{rules}
 use Rattle.charge.proofs.charge.Charge.emptied.Goals as goal
 
 pub returns : goal.returns

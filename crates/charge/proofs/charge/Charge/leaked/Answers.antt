@@ -4,7 +4,6 @@ use Prim.Native.Nat.{ℕ, ◌-◌}
 use Rattle.grains.specs.Run.{drained}
 use Rattle.charge.specs.Charge.{leaked}
 use Rattle.charge.proofs.ChargeLaws.{charge_alike}
-use borrow.Author.Rules.{rules}
 use Rattle.charge.proofs.charge.Charge.leaked.Goals as goal
 
 pub returns : goal.returns

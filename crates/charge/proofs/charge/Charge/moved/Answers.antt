@@ -4,7 +4,6 @@ use Prim.Native.Nat.{ℕ}
 use Rattle.grains.specs.Grains.{grains_of_current}
 use Rattle.charge.specs.Charge.{moved, run_moved}
 use Rattle.charge.proofs.ChargeLaws.{charge_alike}
-use borrow.Author.Rules.{rules}
 use Rattle.charge.proofs.charge.Charge.moved.Goals as goal
 
 pub returns : goal.returns

@@ -1,6 +1,5 @@
 -- Each arm returns the clause of the definition at its case. Assumes nothing.
 use Rattle.charge.specs.Obeyed.{charge_obeyed}
-use borrow.Author.Rules.{rules}
 use Rattle.charge.proofs.charge.Charge.obeyed.Goals as goal
 
 pub returns-in-Wrtnac : goal.returns-in-Wrtnac

@@ -2,7 +2,6 @@
 use mathlib.Core.Path.{refl}
 use Rattle.charge.specs.Charge.{opened_charge}
 use Rattle.charge.proofs.ChargeLaws.{charge_alike}
-use borrow.Author.Rules.{rules}
 use Rattle.charge.proofs.charge.Charge.opened.Goals as goal
 
 pub returns : goal.returns

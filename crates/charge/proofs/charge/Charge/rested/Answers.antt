@@ -1,6 +1,5 @@
 -- The windows of a rest as one. Assumes nothing.
 use native.Mathlib.Omega.{arith}
-use borrow.Author.Rules.{rules}
 use Rattle.charge.proofs.RestLaws.{rested_is, rested_none}
 use Rattle.charge.proofs.charge.Charge.rested.Goals as goal
 

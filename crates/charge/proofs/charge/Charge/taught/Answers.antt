@@ -4,7 +4,6 @@ use Prim.Native.Nat.{ℕ, ◌/◌}
 use Rattle.grains.specs.Grains.{grains_of_counts}
 use Rattle.charge.specs.Charge.{taught}
 use Rattle.charge.proofs.ChargeLaws.{charge_alike}
-use borrow.Author.Rules.{rules}
 use Rattle.charge.proofs.charge.Charge.taught.Goals as goal
 
 pub returns : goal.returns

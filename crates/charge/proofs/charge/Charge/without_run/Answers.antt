@@ -2,7 +2,6 @@
 use mathlib.Core.Path.{refl}
 use Rattle.charge.specs.Charge.{without_run}
 use Rattle.charge.proofs.ChargeLaws.{charge_alike}
-use borrow.Author.Rules.{rules}
 use Rattle.charge.proofs.charge.Charge.without_run.Goals as goal
 
 pub returns : goal.returns

@@ -3,7 +3,6 @@ use mathlib.Core.Path.{refl, ap, ◌∙◌}
 use Prim.Native.Nat.{min}
 use Rattle.charge.specs.Obeyed.{written_lmd}
 use Rattle.charge.proofs.ChargeLaws.{charge_alike}
-use borrow.Author.Rules.{rules}
 use Rattle.charge.proofs.charge.Charge.written_lmd.Goals as goal
 
 pub returns : goal.returns

@@ -4,7 +4,6 @@ use Prim.Native.Nat.{ℕ, min}
 use Rattle.grains.specs.Grains.{grains_of_counts}
 use Rattle.charge.specs.Obeyed.{written_nac}
 use Rattle.charge.proofs.ChargeLaws.{charge_alike}
-use borrow.Author.Rules.{rules}
 use Rattle.charge.proofs.charge.Charge.written_nac.Goals as goal
 
 pub returns : goal.returns

@@ -3,7 +3,6 @@ use mathlib.Core.Bool.{not}
 use mathlib.Core.Path.{ap}
 use Prim.Native.Nat.{ℕ}
 use lib.Dec.{eqb}
-use borrow.Author.Rules.{rules}
 use Rattle.configuration.specs.Settings.{settings_accepted}
 use Rattle.configuration.proofs.settings.Settings.accepted.Goals as goal
 

@@ -1,6 +1,5 @@
 -- The test of the cycles. Assumes nothing.
 use Rattle.counters.specs.Counters.{counters_accepted}
-use borrow.Author.Rules.{rules}
 use Rattle.counters.proofs.counters.Counters.accepted.Goals as goal
 
 pub returns : goal.returns

@@ -1,6 +1,5 @@
 -- Each way returns the case that its test picks. Assumes nothing.
 use Rattle.counters.proofs.CountersLaws.{cleared, kept}
-use borrow.Author.Rules.{rules}
 use Rattle.counters.proofs.counters.Counters.moved.Goals as goal
 
 pub returns-then-current-ne0 : goal.returns-then-current-ne0

@@ -2,7 +2,6 @@
 use mathlib.Core.Path.{ap}
 use Rattle.counters.specs.Counters.{counters_obeyed, opened_counters}
 use Rattle.counters.proofs.CountersLaws.{counters_of}
-use borrow.Author.Rules.{rules}
 use Rattle.counters.proofs.counters.Counters.obeyed.Goals as goal
 
 pub returns-in-Setting : goal.returns-in-Setting

@@ -2,7 +2,6 @@
 use mathlib.Core.Path.{ap}
 use Rattle.counters.specs.Counters.{opened_counters}
 use Rattle.counters.proofs.CountersLaws.{counters_of}
-use borrow.Author.Rules.{rules}
 use Rattle.counters.proofs.counters.Counters.opened.Goals as goal
 
 pub returns : goal.returns

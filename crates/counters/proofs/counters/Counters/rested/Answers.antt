@@ -1,6 +1,5 @@
 -- The count is the sum, or it stops. Assumes nothing.
 use Rattle.counters.proofs.CountersLaws.{counted, stopped}
-use borrow.Author.Rules.{rules}
 use Rattle.counters.proofs.counters.Counters.rested.Goals as goal
 
 pub returns-then-all : goal.returns-then-all

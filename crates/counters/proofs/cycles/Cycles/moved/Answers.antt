@@ -4,7 +4,6 @@ use mathlib.Core.Path.{◌≡◌}
 use native.Mathlib.Omega.{arith}
 use Rattle.counters.specs.Cycles.{drain_with, most_cycles}
 use Rattle.counters.proofs.CyclesLaws.{drain_with_lem, not_whole, nothing_learned, whole_counted}
-use borrow.Author.Rules.{rules}
 use Rattle.counters.proofs.cycles.Cycles.moved.Goals as goal
 use Rattle.counters.proofs.cycles.Cycles.moved.Goals.{After-saturating_sum-drain}
 
@@ -20,14 +19,17 @@ module _ (c : After-saturating_sum-drain) where
 pub returns-then-drain-whole : goal.returns-then-drain-whole
 returns-then-drain-whole c =
     let a = c.args in
+    let s = (goal.at.returns-then-drain-whole c).After-saturating_sum-drain in
     not_whole a.lmd a.current a.self (small s) (drain_is s) c.grains_of_counts-whole.ensures c.if-drain-whole.true
 
 pub returns-then-lmd-eq0 : goal.returns-then-lmd-eq0
 returns-then-lmd-eq0 c =
     let a = c.args in
+    let s = (goal.at.returns-then-lmd-eq0 c).After-saturating_sum-drain in
     nothing_learned a.lmd a.current a.self (small s) (drain_is s) c.if-lmd-eq0.true
 
 pub returns : goal.returns
 returns c =
     let a = c.args in
+    let s = (goal.at.returns c).After-saturating_sum-drain in
     whole_counted a.lmd a.current a.self (small s) (drain_is s) c.grains_of_counts-whole.ensures c.cyct_after.ensures

@@ -1,6 +1,5 @@
 -- Each arm returns the clause of the definition at its case. Assumes nothing.
 use Rattle.flags.specs.Flags.{flags_obeyed}
-use borrow.Author.Rules.{rules}
 use Rattle.flags.proofs.flags.Flags.obeyed.Goals as goal
 
 pub returns-in-Wrtnac : goal.returns-in-Wrtnac

@@ -1,5 +1,5 @@
 -- Each way returns what its tests pick. Assumes nothing.
-use mathlib.Core.Bool.{Bool, true, false}
+use mathlib.Core.Bool.{Bool, true}
 use mathlib.Core.Path.{◌≡◌, ap, ◌∙◌, sym}
 use Prim.Native.Nat.{ℕ}
 use borrow.Author.Tests.{not-true, not-false}
@@ -8,58 +8,39 @@ use Rattle.configuration.specs.Configuration.{dmf, s0}
 use Rattle.configuration.specs.Settings.{settings_accepted}
 use Rattle.sample.specs.Sample.{sample_accepted}
 use Rattle.standby.specs.Standby.{standby_accepted}
-use Rattle.gauge.specs.declared.state.Gauge.{Gauge}
 use Rattle.gauge.proofs.AcceptedLaws.{no_settings, no_charge, no_sample_lem, no_standby, last_test}
-use borrow.Author.Rules.{rules}
 use Rattle.gauge.proofs.state.Gauge.accepted.Goals as goal
 use Rattle.gauge.proofs.state.Gauge.accepted.Goals.{After-accepted-2, After-accepted-3, After-dmf, After-standby_accepted}
 
 -- what each test that was passed says of the gauge
-module _ (c : After-accepted-2) where
-  gauge : Gauge
-  gauge = c.args.self
+opens : (c : After-accepted-2) → settings_accepted c.args.self.settings ≡ true
+opens c = sym c.accepted.ensures ∙ not-false _ c.if-not-accepted.false-raw
 
-  opens : settings_accepted gauge.settings ≡ true
-  unfolding gauge
-  opens =
-      sym c.accepted.ensures ∙ not-false _ c.if-not-accepted.false-raw
+charged : (c : After-standby_accepted) → charge_accepted c.args.self.charge ≡ true
+charged c = sym c.accepted-2.ensures ∙ not-false _ c.if-not-accepted-2.false-raw
 
-charged : (c : After-standby_accepted) → charge_accepted (gauge a).charge ≡ true
-unfolding gauge
-charged c =
-    sym c.accepted-2.ensures ∙ not-false _ c.if-not-accepted-2.false-raw
+stands : (c : After-dmf) → standby_accepted (s0 c.args.self.settings) c.args.self.standby ≡ true
+stands c = sym c.standby_accepted.ensures ∙ not-false _ c.if-not-standby_accepted.false-raw
 
-stands : (c : After-dmf) → standby_accepted (s0 (gauge a).settings) (gauge a).standby ≡ true
-unfolding gauge
-stands c =
-    sym c.standby_accepted.ensures ∙ not-false _ c.if-not-standby_accepted.false-raw
-
-sampled : {t : Bool} (c : After-accepted-3) → c.accepted-3.result ≡ t →
-    sample_accepted (dmf (gauge a).settings) (gauge a).sample ≡ t
-unfolding gauge
-sampled c e =
-    sym (c.accepted-3.ensures ∙ ap (λ (n : ℕ). sample_accepted n (gauge a).sample) c.dmf.ensures.value) ∙ e
+sampled : {t : Bool} (c : After-accepted-3) → c.accepted-3.result ≡ t → sample_accepted (dmf c.args.self.settings) c.args.self.sample ≡ t
+sampled c e = sym (c.accepted-3.ensures ∙ ap (λ (n : ℕ). sample_accepted n c.args.self.sample) c.dmf.ensures.value) ∙ e
 
 pub returns-then-not-accepted : goal.returns-then-not-accepted
 returns-then-not-accepted c =
     no_settings c.args.self (sym c.accepted.ensures ∙ not-true _ c.if-not-accepted.true-raw)
 
 pub returns-then-not-accepted-2 : goal.returns-then-not-accepted-2
-unfolding gauge
 returns-then-not-accepted-2 c =
-    no_charge (gauge a) (opens a) (sym c.accepted-2.ensures ∙ not-true _ c.if-not-accepted-2.true-raw)
+    no_charge c.args.self (opens (goal.at.returns-then-not-accepted-2 c).After-accepted-2) (sym c.accepted-2.ensures ∙ not-true _ c.if-not-accepted-2.true-raw)
 
 pub returns-then-not-standby_accepted : goal.returns-then-not-standby_accepted
-unfolding gauge
 returns-then-not-standby_accepted c =
-    no_standby (gauge a) (opens a) (charged (goal.at.returns-then-not-standby_accepted c).After-standby_accepted) (sym c.standby_accepted.ensures ∙ not-true _ c.if-not-standby_accepted.true-raw)
+    no_standby c.args.self (opens (goal.at.returns-then-not-standby_accepted c).After-accepted-2) (charged (goal.at.returns-then-not-standby_accepted c).After-standby_accepted) (sym c.standby_accepted.ensures ∙ not-true _ c.if-not-standby_accepted.true-raw)
 
 pub returns-then-not-accepted-3 : goal.returns-then-not-accepted-3
-unfolding gauge
 returns-then-not-accepted-3 c =
-    no_sample_lem (gauge a) (opens a) (charged (goal.at.returns-then-not-accepted-3 c).After-standby_accepted) (stands (goal.at.returns-then-not-accepted-3 c).After-dmf) (sampled v (not-true _ c.if-not-accepted-3.true-raw))
+    no_sample_lem c.args.self (opens (goal.at.returns-then-not-accepted-3 c).After-accepted-2) (charged (goal.at.returns-then-not-accepted-3 c).After-standby_accepted) (stands (goal.at.returns-then-not-accepted-3 c).After-dmf) (sampled (goal.at.returns-then-not-accepted-3 c).After-accepted-3 (not-true _ c.if-not-accepted-3.true-raw))
 
 pub returns : goal.returns
-unfolding gauge
 returns c =
-    last_test (gauge a) (opens a) (charged (goal.at.returns c).After-standby_accepted) (stands (goal.at.returns c).After-dmf) (sampled v (not-false _ c.if-not-accepted-3.false-raw)) c.accepted-4.ensures
+    last_test c.args.self (opens (goal.at.returns c).After-accepted-2) (charged (goal.at.returns c).After-standby_accepted) (stands (goal.at.returns c).After-dmf) (sampled (goal.at.returns c).After-accepted-3 (not-false _ c.if-not-accepted-3.false-raw)) c.accepted-4.ensures

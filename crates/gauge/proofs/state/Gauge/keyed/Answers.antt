@@ -1,6 +1,5 @@
 -- Each arm answers what the decision's case asks. Assumes nothing.
 use Rattle.gauge.proofs.CallLaws.{key_obeyed, key_refused}
-use borrow.Author.Rules.{rules}
 use Rattle.gauge.proofs.state.Gauge.keyed.Goals as goal
 
 pub returns-in-Obey : goal.returns-in-Obey

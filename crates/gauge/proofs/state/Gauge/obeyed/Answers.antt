@@ -1,7 +1,6 @@
 -- The parts, put together. Assumes nothing.
 use Rattle.gauge.specs.Obey.{obeyed}
 use Rattle.gauge.proofs.GaugeLaws.{same_settings_alike}
-use borrow.Author.Rules.{rules}
 use Rattle.gauge.proofs.state.Gauge.obeyed.Goals as goal
 
 pub returns : goal.returns

@@ -1,15 +1,12 @@
 -- Each way answers what its tests pick, in the paper's order. Assumes nothing.
-use mathlib.Core.Bool.{Bool, true, false}
-use mathlib.Core.Path.{◌≡◌, ap, ◌∙◌, sym}
-use Prim.Native.Nat.{ℕ, ◌<◌}
+use mathlib.Core.Path.{ap, ◌∙◌, sym}
+use Prim.Native.Nat.{ℕ}
 use native.Mathlib.Omega.{arith}
-use lib.Dec.{ltb}
 use borrow.Author.Tests.{not-true, not-false, le-leb, lt-leb, lt-ltb, le-ltb}
 use Rattle.numbers.proofs.SignedLaws.{narrow}
 use Rattle.sample.specs.Range.{temperature, temperature_in_range}
 use Rattle.gauge.specs.Rest.{rest}
 use Rattle.gauge.proofs.CallLaws.{rest_rejected, rest_none, rest_long, rest_temperature, rest_done}
-use borrow.Author.Rules.{rules}
 use Rattle.gauge.proofs.state.Gauge.rest.Goals as goal
 
 pub returns-then-not-accepted : goal.returns-then-not-accepted

@@ -5,7 +5,6 @@ use Rattle.charge.specs.Rest.{rested}
 use Rattle.grains.specs.Leak.{leak_rate}
 use Rattle.gauge.specs.Rest.{rest}
 use Rattle.gauge.proofs.GaugeLaws.{same_settings_alike}
-use borrow.Author.Rules.{rules}
 use Rattle.gauge.proofs.state.Gauge.rested.Goals as goal
 
 pub returns : goal.returns

@@ -1,6 +1,5 @@
 -- The sum, what it reaches, and each part moved by that. Assumes nothing.
 use Rattle.gauge.proofs.WindowLaws.{stepped_is}
-use borrow.Author.Rules.{rules}
 use Rattle.gauge.proofs.state.Gauge.stepped.Goals as goal
 
 pub returns : goal.returns

@@ -1,5 +1,4 @@
 -- Each way answers what its tests pick, in the paper's order. Assumes nothing.
-use mathlib.Core.Bool.{Bool, true, false}
 use mathlib.Core.Path.{◌≡◌, ap, ◌∙◌, sym}
 use Prim.Native.Nat.{ℕ}
 use borrow.Author.Tests.{not-true, not-false}
@@ -10,7 +9,6 @@ use Rattle.sample.specs.Range.{current, current_in_range, temperature, temperatu
 use Rattle.sample.specs.declared.current.Current.{Current}
 use Rattle.gauge.specs.Window.{window}
 use Rattle.gauge.proofs.CallLaws.{window_rejected, window_current, window_voltage, window_temperature, window_done}
-use borrow.Author.Rules.{rules}
 use Rattle.gauge.proofs.state.Gauge.window.Goals as goal
 
 pub returns-then-not-accepted : goal.returns-then-not-accepted

@@ -4,7 +4,6 @@ use borrow.Author.Tests.{not-true, not-false, lt-ltb, le-ltb, eq-eqb, ne_eqb}
 use Rattle.gauge.specs.Calls.{stored_at}
 use Rattle.gauge.proofs.CallLaws.{write_rejected, write_beyond, write_key, write_stored}
 use Rattle.gauge.proofs.GaugeLaws.{same_settings_alike}
-use borrow.Author.Rules.{rules}
 use Rattle.gauge.proofs.state.Gauge.write.Goals as goal
 
 pub returns-then-not-accepted : goal.returns-then-not-accepted

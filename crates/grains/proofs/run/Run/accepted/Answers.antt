@@ -1,6 +1,5 @@
 -- Each way returns what its tests pick. Assumes nothing.
 use mathlib.Core.Path.{◌∙◌, sym}
-use borrow.Author.Rules.{rules}
 use Rattle.grains.specs.Run.{run_accepted}
 use Rattle.grains.proofs.run.Run.accepted.Goals as goal
 

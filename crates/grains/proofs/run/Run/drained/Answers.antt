@@ -1,5 +1,4 @@
 -- Each way returns the case that its test picks. Assumes nothing.
-use borrow.Author.Rules.{rules}
 use Rattle.grains.specs.Run.{drained}
 use Rattle.grains.proofs.run.Run.drained.Goals as goal
 

@@ -1,6 +1,5 @@
 -- Each way returns the case that its test picks. Assumes nothing.
 use mathlib.Core.Path.{◌∙◌, sym}
-use borrow.Author.Rules.{rules}
 use Rattle.grains.specs.Run.{unless_passed}
 use Rattle.grains.proofs.run.Run.unless_passed.Goals as goal
 

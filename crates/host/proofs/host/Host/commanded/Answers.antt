@@ -1,6 +1,5 @@
 -- Each arm returns the clause of the definition at its case. Assumes nothing.
 use Rattle.host.specs.Host.{commanded}
-use borrow.Author.Rules.{rules}
 use Rattle.host.proofs.host.Host.commanded.Goals as goal
 
 pub returns-in-Wrtnac : goal.returns-in-Wrtnac

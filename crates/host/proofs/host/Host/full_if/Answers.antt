@@ -2,7 +2,6 @@
 use mathlib.Core.Path.{refl}
 use Rattle.host.specs.Host.{full_if}
 use Rattle.host.proofs.HostLaws.{host_alike}
-use borrow.Author.Rules.{rules}
 use Rattle.host.proofs.host.Host.full_if.Goals as goal
 
 pub returns-then-full : goal.returns-then-full

@@ -3,7 +3,6 @@ use mathlib.Core.Path.{ap, ◌∙◌}
 use Rattle.host.specs.Host.{commands_cleared, host_obeyed}
 use Rattle.host.specs.declared.host.Host.{Host}
 use Rattle.host.proofs.HostLaws.{host_alike}
-use borrow.Author.Rules.{rules}
 use Rattle.host.proofs.host.Host.obeyed.Goals as goal
 
 pub returns : goal.returns

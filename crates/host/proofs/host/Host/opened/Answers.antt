@@ -2,7 +2,6 @@
 use mathlib.Core.Path.{refl}
 use Rattle.host.specs.Host.{opened_host}
 use Rattle.host.proofs.HostLaws.{host_alike}
-use borrow.Author.Rules.{rules}
 use Rattle.host.proofs.host.Host.opened.Goals as goal
 
 pub returns : goal.returns

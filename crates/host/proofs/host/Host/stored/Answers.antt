@@ -6,7 +6,6 @@ use borrow.Author.Tests.{eq-eqb, ne_eqb}
 use Rattle.numbers.specs.Little.{byte_at}
 use Rattle.host.specs.Host.{stored}
 use Rattle.host.proofs.HostLaws.{host_alike}
-use borrow.Author.Rules.{rules}
 use Rattle.host.proofs.host.Host.stored.Goals as goal
 
 pub returns-then-address-eq1 : goal.returns-then-address-eq1

@@ -1,7 +1,6 @@
 -- A space ends a word, any other byte is one of the word that goes on. Assumes nothing.
 use borrow.Author.Tests.{eq-eqb, ne_eqb}
 use Rattle.lines.specs.Reading.{fed}
-use borrow.Author.Rules.{rules}
 use Rattle.lines.proofs.line.Reading.fed.Goals as goal
 
 pub returns-then-byte-eq32 : goal.returns-then-byte-eq32

@@ -1,6 +1,5 @@
 -- Each arm returns the clause of the definition at its case. Assumes nothing.
 use Rattle.lines.specs.Reading.{read_as}
-use borrow.Author.Rules.{rules}
 use Rattle.lines.proofs.line.Reading.line.Goals as goal
 
 pub returns-in-First : goal.returns-in-First

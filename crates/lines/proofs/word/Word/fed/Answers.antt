@@ -1,6 +1,5 @@
 -- Each arm returns the clause of the definition at its case. Assumes nothing.
 use Rattle.lines.specs.Word.{word_fed}
-use borrow.Author.Rules.{rules}
 use Rattle.lines.proofs.word.Word.fed.Goals as goal
 
 pub returns-in-Empty : goal.returns-in-Empty

@@ -1,6 +1,5 @@
 -- Each way returns the case that its test picks. Assumes nothing.
 use borrow.Author.Tests.{le-leb, lt-leb}
-use borrow.Author.Rules.{rules}
 use Rattle.sample.specs.Current.{counted}
 use Rattle.sample.proofs.current.Current.counted.Goals as goal
 

@@ -2,7 +2,6 @@
 use mathlib.Core.Path.{sym, ◌∙◌}
 use borrow.Author.Tests.{not-true, not-false}
 use Rattle.sample.proofs.SampleLaws.{refused_current, refused_voltage, tested_last}
-use borrow.Author.Rules.{rules}
 use Rattle.sample.proofs.sample.Sample.accepted.Goals as goal
 
 pub returns-then-not-current_accepted : goal.returns-then-not-current_accepted

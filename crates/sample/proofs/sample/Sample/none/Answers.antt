@@ -1,6 +1,5 @@
 -- The fields as `no_sample` has them. Assumes nothing.
 use Rattle.sample.proofs.SampleLaws.{none_is}
-use borrow.Author.Rules.{rules}
 use Rattle.sample.proofs.sample.Sample.none.Goals as goal
 
 pub returns : goal.returns

@@ -1,6 +1,5 @@
 -- Each arm returns the clause of the definition at its case. Assumes nothing.
 use Rattle.sample.specs.Sample.{sample_obeyed}
-use borrow.Author.Rules.{rules}
 use Rattle.sample.proofs.sample.Sample.obeyed.Goals as goal
 
 pub returns-in-Setting : goal.returns-in-Setting

@@ -1,6 +1,5 @@
 -- The fields as `sample_rested` has them. Assumes nothing.
 use Rattle.sample.proofs.SampleLaws.{rested_is}
-use borrow.Author.Rules.{rules}
 use Rattle.sample.proofs.sample.Sample.rested.Goals as goal
 
 pub returns : goal.returns
