@@ -1,7 +1,6 @@
 """The kit's clang: a module as text, a module compiled as it was for x86-64, a text compiled for a target."""
-import os
+import functools
 import pathlib
-import platform
 import shutil
 import subprocess
 
@@ -14,11 +13,11 @@ COMMON = (
 X86 = "x86_64-unknown-linux-gnu"
 
 
+@functools.lru_cache(maxsize=None)
 def toolchain():
     """The folder of the kit's own clang and llvm-ar."""
-    rt = shutil.which("rt")
-    home = os.environ.get("RATTLE_HOME") or (rt and pathlib.Path(rt).resolve().parent.parent)
-    folder = pathlib.Path(home or "/") / "on" / platform.machine() / "toolchain" / "bin"
+    page = subprocess.run(["rt", "doc"], check=True, text=True, capture_output=True).stdout.strip()
+    folder = pathlib.Path(page).parent / "toolchain" / "bin"
     if not (folder / "clang").exists():
         raise Refused(f"compiler: no clang in {folder}")
     return folder
