@@ -4,7 +4,7 @@
 
 mod print;
 
-ghost use Rattle.std.specs.Prelude.{◌≡◌, List, [], ◌++◌, ℕ, IfSome, IsOk, OnOk, Some, take};
+ghost use Rattle.std.specs.Prelude.{◌≡◌, List, [], ◌++◌, ℕ, IfOk, IfSome, IsOk, OnOk, Some, take, true};
 ghost use Rattle.std.specs.Io.KnownBytes.{Appends};
 ghost use Rattle.bench.specs.Print as Spec;
 ghost use Rattle.bench.specs.Written.{Written};
@@ -61,9 +61,10 @@ fn turn<R: Read, W: Write>(input: &mut R, output: &mut W, bench: Bench) -> Progr
     print_read(output, bench, got, &part)
 }
 
-// Prints what the whole input gives. A proved loop has to end and an input need not, so the turns are counted by a number that no run uses up.
-pub fn run<R: Read, W: Write>(input: &mut R, output: &mut W) -> Result<(), Failure>
-    ensures { OnOk result (IfSome (R.remaining input.old)
+// Prints what the whole input gives, and hands back whether it came to the end. A proved loop has to end and an input need not, so the turns are
+// counted by a number that no run uses up.
+pub fn run<R: Read, W: Write>(input: &mut R, output: &mut W) -> Result<bool, Failure>
+    ensures { IfOk result (λ whole. whole ≡ true → IfSome (R.remaining input.old)
         (λ all. Appends (W.contents output.old) (W.contents output.new) (printed all))) }
 {
     let mut bench = Bench::start();
@@ -71,13 +72,14 @@ pub fn run<R: Read, W: Write>(input: &mut R, output: &mut W) -> Result<(), Failu
         let progress = turn(input, output, bench);
         progress.outcome?;
         if !progress.more {
-            return Ok(());
+            return Ok(true);
         }
         bench = progress.bench;
     }
-    Err(Failure::Input(io::Error::other("too many reads")))
+    Ok(false)
 }
 
 fn main(rt: HostRuntime) -> Result<(), Failure> {
-    run(&mut rt.stdin(), &mut rt.stdout())
+    run(&mut rt.stdin(), &mut rt.stdout())?;
+    Ok(())
 }

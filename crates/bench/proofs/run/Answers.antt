@@ -12,7 +12,7 @@ loop-preserved g c =
     (not_failed t.result.outcome (ap is_err c.in_ok-progress.was) t.ensures.written)
 
 pub returns-then-not-progress : goal.returns-then-not-progress
-returns-then-not-progress g c =
+returns-then-not-progress g c whole =
     let t = c.turn-progress in
     last_turn _ _ _ _ _ _ _ _ t.result (search rules) c.loop.invariant
     (not_failed t.result.outcome (ap is_err c.in_ok-progress.was) t.ensures.written) c.start-bench.ensures.whole
