@@ -1,4 +1,5 @@
 -- The first copy fills the front of the zeros, the second what stands behind the count. Assumes nothing.
+use borrow.Author.Rules.{rules}
 use mathlib.Core.Path.{◌≡◌, refl, sym}
 use native.Mathlib.Omega.{arith}
 use lib.ListN.{length, take}
@@ -14,9 +15,7 @@ part s = let l = s.requires in sym (length-take-le 43 s.args.bytes.now (omega ar
 pub slice_bounds-put_front-end : goal.slice_bounds-put_front-end
 slice_bounds-put_front-end c = part (goal.at.slice_bounds-put_front-end c).Start
 
-pub put_front-requires : goal.put_front-requires
-put_front-requires c = let h = part (goal.at.put_front-requires c).Start in omega arith
-
 pub returns : goal.returns
 returns c =
-    form_4_copied c.args.bytes.now c.requires refl c.put_front.ensures refl c.put_front-2.ensures
+    let h = part (goal.at.returns c).Start in
+    form_4_copied c.args.bytes.now c.requires refl (c.put_front.ensures.fits (omega arith)) refl (c.put_front-2.ensures.fits (search rules))

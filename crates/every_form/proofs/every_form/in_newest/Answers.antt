@@ -1,4 +1,5 @@
 -- Each copy fills the front of the zeros. Assumes nothing.
+use borrow.Author.Rules.{rules}
 use mathlib.Core.Path.{◌≡◌, ap}
 use native.Mathlib.Omega.{arith}
 use lib.ListN.{length}
@@ -14,7 +15,7 @@ left c = shortest_left c.args.first c.requires
 
 pub returns-then-bytes : goal.returns-then-bytes
 returns-then-bytes c =
-    newest_copied c.args.bytes.now c.args.first c.requires c.if-bytes.true c.put_front.ensures
+    newest_copied c.args.bytes.now c.args.first c.requires c.if-bytes.true (c.put_front.ensures.fits (search rules))
 
 pub form_4_in_newest-requires : goal.form_4_in_newest-requires
 form_4_in_newest-requires c = c.if-bytes-2.true
@@ -25,20 +26,15 @@ returns-then-bytes-2 c =
 
 pub returns-then-bytes-3 : goal.returns-then-bytes-3
 returns-then-bytes-3 c =
-    form_3_copied c.args.bytes.now c.args.first c.requires c.if-bytes-3.true c.put_front-then-bytes-3.ensures
+    form_3_copied c.args.bytes.now c.args.first c.requires c.if-bytes-3.true (c.put_front-then-bytes-3.ensures.fits (search rules))
 
 pub slice_bounds-put_front-end-2 : goal.slice_bounds-put_front-end-2
 slice_bounds-put_front-end-2 c =
     let l = left (goal.at.slice_bounds-put_front-end-2 c).Start c.if-bytes.false c.if-bytes-2.false c.if-bytes-3.false in
     omega (arith, ap length (all_taken c.args.bytes.now l))
 
-pub put_front-requires-2 : goal.put_front-requires-2
-put_front-requires-2 c =
-    let l = left (goal.at.put_front-requires-2 c).Start c.if-bytes.false c.if-bytes-2.false c.if-bytes-3.false in
-    omega (arith, ap length (all_taken c.args.bytes.now l))
-
 pub returns : goal.returns
 returns c =
     let bytes = c.args.bytes.now in
     let l = left (goal.at.returns c).Start c.if-bytes.false c.if-bytes-2.false c.if-bytes-3.false in
-    form_2_copied bytes c.args.first c.requires l (all_taken bytes l) c.put_front-2.ensures
+    form_2_copied bytes c.args.first c.requires l (all_taken bytes l) (c.put_front-2.ensures.fits (omega (arith, ap length (all_taken bytes l))))

@@ -29,7 +29,8 @@ decoded_in_newest-gauge-requires c = fit_length (tested (goal.at.decoded_in_newe
 pub returns-then-not-units_fit : goal.returns-then-not-units_fit
 returns-then-not-units_fit c =
     let k = tested (goal.at.returns-then-not-units_fit c).After-in_form in
-    units_misfit k (not-false _ c.if-not-in_form.false-raw) c.decoded_in_newest-gauge.ensures (c.units_fit.ensures.standby_value (not-true _ c.if-not-units_fit.true-raw)) c.rejected-then-not-units_fit.ensures
+    units_misfit k (not-false _ c.if-not-in_form.false-raw) c.decoded_in_newest-gauge.ensures
+    (c.units_fit.ensures.standby_value (not-true _ c.if-not-units_fit.true-raw)) c.rejected-then-not-units_fit.ensures
 
 pub carried_standby-requires : goal.carried_standby-requires
 carried_standby-requires c = λ first. c.units_fit.ensures.range first (not-false _ c.if-not-units_fit.false-raw)

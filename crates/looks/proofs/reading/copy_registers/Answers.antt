@@ -1,4 +1,5 @@
 -- One pair, all registers, or the middle of the whole map. Assumes nothing.
+use borrow.Author.Rules.{rules}
 use mathlib.Core.Path.{◌∙◌, ap}
 use Prim.Native.Nat.{◌/◌}
 use Rattle.gauge.specs.Accepted.{accepted}
@@ -25,4 +26,4 @@ returns-then-part-eq-REGISTER_COUNT c =
 pub returns : goal.returns
 returns c =
     let a = c.args in
-    copied_middle (decoded_gauge a.saved.now) a.address _ a.part.now _ c.put_registers-2.ensures c.requires.3 c.put_front.ensures
+    copied_middle (decoded_gauge a.saved.now) a.address _ a.part.now _ c.put_registers-2.ensures c.requires.3 (c.put_front.ensures.fits (search rules))

@@ -36,43 +36,49 @@ returns-then-not-gauge_accepted c =
 pub returns-then-count-eq0 : goal.returns-then-count-eq0
 returns-then-count-eq0 c =
     let a = c.args in
-    let p = looked a.saved.now a.address a.count a.place a.reply.now (tested (goal.at.returns-then-count-eq0 c).Else-not-gauge_accepted).0
-    (read_none (decoded_gauge a.saved.now) a.address a.count a.place a.reply.now (tested (goal.at.returns-then-count-eq0 c).Else-not-gauge_accepted).1 c.if-count-eq0.true) in
+    let k = tested (goal.at.returns-then-count-eq0 c).Else-not-gauge_accepted in
+    let p = looked a.saved.now a.address a.count a.place a.reply.now k.0
+    (read_none (decoded_gauge a.saved.now) a.address a.count a.place a.reply.now k.1 c.if-count-eq0.true) in
     record { number = p.0; bytes = p.1 }
 
 pub returns-then-count-gt-ADDRESSES : goal.returns-then-count-gt-ADDRESSES
 returns-then-count-gt-ADDRESSES c =
     let a = c.args in
-    let p = looked a.saved.now a.address a.count a.place a.reply.now (tested (goal.at.returns-then-count-gt-ADDRESSES c).Else-not-gauge_accepted).0
-    (read_long (decoded_gauge a.saved.now) a.address a.count a.place a.reply.now (tested (goal.at.returns-then-count-gt-ADDRESSES c).Else-not-gauge_accepted).1 c.if-count-eq0.false c.if-count-gt-ADDRESSES.true) in
+    let k = tested (goal.at.returns-then-count-gt-ADDRESSES c).Else-not-gauge_accepted in
+    let p = looked a.saved.now a.address a.count a.place a.reply.now k.0
+    (read_long (decoded_gauge a.saved.now) a.address a.count a.place a.reply.now k.1 c.if-count-eq0.false c.if-count-gt-ADDRESSES.true) in
     record { number = p.0; bytes = p.1 }
 
 pub returns-then-count-address : goal.returns-then-count-address
 returns-then-count-address c =
     let a = c.args in
-    let p = looked a.saved.now a.address a.count a.place a.reply.now (tested (goal.at.returns-then-count-address c).Else-not-gauge_accepted).0
-    (read_beyond (decoded_gauge a.saved.now) a.address a.count a.place a.reply.now (tested (goal.at.returns-then-count-address c).Else-not-gauge_accepted).1 c.if-count-eq0.false c.if-count-address.true) in
+    let k = tested (goal.at.returns-then-count-address c).Else-not-gauge_accepted in
+    let p = looked a.saved.now a.address a.count a.place a.reply.now k.0
+    (read_beyond (decoded_gauge a.saved.now) a.address a.count a.place a.reply.now k.1 c.if-count-eq0.false c.if-count-address.true) in
     record { number = p.0; bytes = p.1 }
 
 pub returns-then-reply-end : goal.returns-then-reply-end
 returns-then-reply-end c =
     let a = c.args in
-    let p = looked a.saved.now a.address a.count a.place a.reply.now (tested (goal.at.returns-then-reply-end c).Else-not-gauge_accepted).0
-    (read_outside (decoded_gauge a.saved.now) a.address a.count a.place a.reply.now (tested (goal.at.returns-then-reply-end c).Else-not-gauge_accepted).1
+    let k = tested (goal.at.returns-then-reply-end c).Else-not-gauge_accepted in
+    let p = looked a.saved.now a.address a.count a.place a.reply.now k.0
+    (read_outside (decoded_gauge a.saved.now) a.address a.count a.place a.reply.now k.1
     c.if-count-eq0.false c.if-count-gt-ADDRESSES.false c.if-count-address.false c.if-reply-end.true) in
     record { number = p.0; bytes = p.1 }
 
 pub copy_registers-requires : goal.copy_registers-requires
 copy_registers-requires c =
     let a = c.args in
-    let fits = lent_fits (decoded_gauge a.saved.now) a.address a.count a.place a.reply.now (tested (goal.at.copy_registers-requires c).Else-not-gauge_accepted).1
+    let k = tested (goal.at.copy_registers-requires c).Else-not-gauge_accepted in
+    let fits = lent_fits (decoded_gauge a.saved.now) a.address a.count a.place a.reply.now k.1
     c.if-count-eq0.false c.if-count-gt-ADDRESSES.false c.if-count-address.false c.if-reply-end.false in
-    ((tested (goal.at.copy_registers-requires c).Else-not-gauge_accepted).1, form_length newest a.saved.now (tested (goal.at.copy_registers-requires c).Else-not-gauge_accepted).0, fits.0, fits.1)
+    (k.1, form_length newest a.saved.now k.0, fits.0, fits.1)
 
 pub returns : goal.returns
 returns c =
     let a = c.args in
-    let p = looked a.saved.now a.address a.count a.place a.reply.now (tested (goal.at.returns c).Else-not-gauge_accepted).0
-    (read_done (decoded_gauge a.saved.now) a.address a.count a.place a.reply.now (tested (goal.at.returns c).Else-not-gauge_accepted).1
+    let k = tested (goal.at.returns c).Else-not-gauge_accepted in
+    let p = looked a.saved.now a.address a.count a.place a.reply.now k.0
+    (read_done (decoded_gauge a.saved.now) a.address a.count a.place a.reply.now k.1
     c.if-count-eq0.false c.if-count-gt-ADDRESSES.false c.if-count-address.false c.if-reply-end.false c.copy_registers.ensures) in
     record { number = p.0; bytes = p.1 }

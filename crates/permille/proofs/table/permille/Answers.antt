@@ -43,7 +43,8 @@ entry-requires c =
 
 pub returns : goal.returns
 returns c =
+    let p = (goal.at.returns c).After-at_least_zero in
     record {
-      value = permille_is _ (voltage_in (goal.at.returns c).After-at_least_zero) (c.entry.ensures.value ∙ ap (λ (n : ℕ). rule (entry_voltage (entry_of n))) (value (goal.at.returns c).After-at_least_zero));
+      value = permille_is _ (voltage_in p) (c.entry.ensures.value ∙ ap (λ (n : ℕ). rule (entry_voltage (entry_of n))) (value p));
       most = c.entry.ensures.most;
     }

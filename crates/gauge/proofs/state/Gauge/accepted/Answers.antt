@@ -35,12 +35,18 @@ returns-then-not-accepted-2 c =
 
 pub returns-then-not-standby_accepted : goal.returns-then-not-standby_accepted
 returns-then-not-standby_accepted c =
-    no_standby c.args.self (opens (goal.at.returns-then-not-standby_accepted c).After-accepted-2) (charged (goal.at.returns-then-not-standby_accepted c).After-standby_accepted) (sym c.standby_accepted.ensures ∙ not-true _ c.if-not-standby_accepted.true-raw)
+    let at = goal.at.returns-then-not-standby_accepted c in
+    no_standby c.args.self (opens at.After-accepted-2) (charged at.After-standby_accepted)
+    (sym c.standby_accepted.ensures ∙ not-true _ c.if-not-standby_accepted.true-raw)
 
 pub returns-then-not-accepted-3 : goal.returns-then-not-accepted-3
 returns-then-not-accepted-3 c =
-    no_sample_lem c.args.self (opens (goal.at.returns-then-not-accepted-3 c).After-accepted-2) (charged (goal.at.returns-then-not-accepted-3 c).After-standby_accepted) (stands (goal.at.returns-then-not-accepted-3 c).After-dmf) (sampled (goal.at.returns-then-not-accepted-3 c).After-accepted-3 (not-true _ c.if-not-accepted-3.true-raw))
+    let at = goal.at.returns-then-not-accepted-3 c in
+    no_sample_lem c.args.self (opens at.After-accepted-2) (charged at.After-standby_accepted) (stands at.After-dmf)
+    (sampled at.After-accepted-3 (not-true _ c.if-not-accepted-3.true-raw))
 
 pub returns : goal.returns
 returns c =
-    last_test c.args.self (opens (goal.at.returns c).After-accepted-2) (charged (goal.at.returns c).After-standby_accepted) (stands (goal.at.returns c).After-dmf) (sampled (goal.at.returns c).After-accepted-3 (not-false _ c.if-not-accepted-3.false-raw)) c.accepted-4.ensures
+    let at = goal.at.returns c in
+    last_test c.args.self (opens at.After-accepted-2) (charged at.After-standby_accepted) (stands at.After-dmf)
+    (sampled at.After-accepted-3 (not-false _ c.if-not-accepted-3.false-raw)) c.accepted-4.ensures
