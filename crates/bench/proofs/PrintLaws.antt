@@ -1,13 +1,15 @@
 -- Which bytes of a part the program has been fed, pass by pass. Assumes nothing.
-use mathlib.Core.Bool.{Bool, false, not}
-use mathlib.Core.List.{List, ◌++◌}
-use mathlib.Core.Path.{◌≡◌, refl, sym, ap, ◌∙◌}
-use Prim.Native.Nat.{ℕ, ◌+◌, ◌-◌, ◌≤◌, ◌<◌}
+use mathlib.Core.Bool.{Bool, true, not}
+use mathlib.Core.List.{List, [], ◌++◌, append_assoc, append-nil}
+use mathlib.Core.Path.{◌≡◌, refl, sym, ap, ◌∙◌, subst}
+use Prim.Native.Nat.{ℕ, ◌-◌, ◌≤◌}
 use native.Mathlib.Omega.{arith}
-use borrow.Author.Tests.{not-true}
-use lib.ListN.{drop, length, length-drop, length-take, take}
-use lib.Seq.{take-add, take_all, take-take}
-use Rattle.std.specs.Prelude.{Result}
+use lib.Dec.{eqb}
+use borrow.Author.Tests.{eqb-true, not-true}
+use lib.ListN.{drop, length, length-append, length-drop, take, take-append-drop}
+use lib.Seq.{take_all, take_at}
+use Rattle.std.proofs.lemmas.List.{nil_from_length}
+use Rattle.std.specs.Prelude.{Ok, Err}
 use Rattle.bench_feed.proofs.InputLaws.{fed_append}
 use Rattle.bench_feed.specs.Feed.{is_ended}
 use Rattle.bench_feed.specs.Input.{fed_all}
@@ -16,62 +18,64 @@ use Rattle.bench.specs.Print.{IsPrinted, IsProgress}
 use Rattle.bench.specs.declared.print.Failure.{Failure}
 use Rattle.bench.specs.declared.print.Printed.{Printed}
 
--- what is left of a part, as the code names it
-abbrev pub rest : List ℕ → ℕ → List ℕ
-rest part at = take (length part - at) (drop at part)
+-- before each pass: the bytes of the part that stand before the rest are fed
+pub record Printing (s : Bench) (part : List ℕ) (q : Bench) (rest : List ℕ) : Type 0 where
+  pub fed : List ℕ
+  pub all : fed ++ rest ≡ part
+  pub bench : q ≡ fed_all s fed
 
-pub rest_length_lem : (part : List ℕ) (at : ℕ) → length (rest part at) ≡ length part - at
-rest_length_lem part at = simp (length-take, length-drop) (omega arith)
-
--- before each pass: so many bytes of the part are fed
-pub record Printing (s : Bench) (part : List ℕ) (q : Bench) (at : ℕ) : Type 0 where
-  pub inside : at ≤ length part
-  pub bench : q ≡ fed_all s (take at part)
-
-pub begins : (s : Bench) (part : List ℕ) → Printing s part s 0
+pub begins : (s : Bench) (part : List ℕ) → Printing s part s part
 unfolding fed_all
-begins s part = record { inside = omega arith; bench = refl }
+begins s part = record { fed = []; all = refl; bench = refl }
 
--- a pass, and how far it comes
-pub record Pass (s : Bench) (part : List ℕ) (at used : ℕ) (q : Bench) : Type 0 where
-  pub next : Printing s part q (at + used)
-  pub some : at < length part → 0 < used
+-- no byte is left
+pub left_none : (rest : List ℕ) (r : Bool) → r ≡ eqb (length rest) 0 → r ≡ true → rest ≡ []
+left_none rest r e t = nil_from_length rest (eqb-true _ _ (sym e ∙ t))
 
-module _ (s : Bench) (part : List ℕ) (q : Bench) (at : ℕ) (k : Printing s part q at) where
-  pub passed : (r : Printed) → IsPrinted q (rest part at) r → Pass s part at r.used r.bench
+-- what is left behind so many bytes, as the code names it
+pub left_is : (rest : List ℕ) (used : ℕ) → take (length rest - used) (drop used rest) ≡ drop used rest
+left_is rest used = let l = length-drop used rest in take_all (length rest - used) (drop used rest) (omega arith)
+
+module _ (s : Bench) (part : List ℕ) (q : Bench) (rest : List ℕ) (k : Printing s part q rest) where
+  pub passed : (r : Printed) → IsPrinted q rest r → Printing s part r.bench (take (length rest - r.used) (drop r.used rest))
   passed r p =
-      let i = k.inside in
-      let u = p.inside in
-      let l = rest_length_lem part at in
-      let within : r.used ≤ length part - at = omega arith in
-      let bytes : take (at + r.used) part ≡ take at part ++ take r.used (rest part at) =
-      take-add at r.used part ∙ sym (ap (λ (x : List ℕ). take at part ++ x) (take-take r.used (length part - at) (drop at part) within)) in
-      let fed : r.bench ≡ fed_all s (take (at + r.used) part) =
-      p.bench
-      ∙ ap (λ (x : Bench). fed_all x (take r.used (rest part at))) k.bench
-      ∙ sym (fed_append s (take at part) (take r.used (rest part at)))
-      ∙ sym (ap (λ (x : List ℕ). fed_all s x) bytes) in
-      record { next = record { inside = omega arith; bench = fed }; some = λ h. p.progress (omega arith) }
+      subst (λ (x : List ℕ). Printing s part r.bench x) (sym (left_is rest r.used)) (record {
+        fed = k.fed ++ take r.used rest;
+        all =
+            append_assoc k.fed (take r.used rest) (drop r.used rest)
+            ∙ ap (λ (x : List ℕ). k.fed ++ x) (take-append-drop r.used rest)
+            ∙ k.all;
+        bench = p.bench ∙ ap (λ (x : Bench). fed_all x (take r.used rest)) k.bench ∙ sym (fed_append s k.fed (take r.used rest));
+      })
+
+  fed_first : take (length k.fed) part ≡ k.fed
+  fed_first = sym (ap (λ (x : List ℕ). take (length k.fed) x) k.all) ∙ take_at k.fed rest (length k.fed) refl
+
+  fed_inside : length k.fed ≤ length part
+  fed_inside =
+      let l = length-append k.fed rest in
+      let e = ap length k.all in
+      omega arith
 
   -- a write failed
-  pub stopped : (o : Result Unit Failure) → IsProgress s part (record { bench = q; more = false; outcome = o })
-  stopped o =
+  pub stopped : (failure : Failure) → IsProgress s part (record { bench = q; more = Err failure })
+  stopped failure =
       record {
-        used = at;
-        inside = k.inside;
-        bench = k.bench;
+        used = length k.fed;
+        inside = fed_inside;
+        bench = k.bench ∙ sym (ap (λ (x : List ℕ). fed_all s x) fed_first);
         whole = λ e. cc;
         goes_on = λ e. cc;
       }
 
   -- every byte is fed
-  pub finished : (o : Result Unit Failure) → length part ≤ at → (ended : Bool) → ended ≡ is_ended q
-      → IsProgress s part (record { bench = q; more = not ended; outcome = o })
-  finished o h ended e =
+  pub finished : rest ≡ [] → (ended : Bool) → ended ≡ is_ended q → IsProgress s part (record { bench = q; more = Ok (not ended) })
+  finished none ended e =
+      let whole : k.fed ≡ part = sym (append-nil k.fed) ∙ sym (ap (λ (x : List ℕ). k.fed ++ x) none) ∙ k.all in
       record {
-        used = at;
-        inside = k.inside;
-        bench = k.bench;
-        whole = λ g. k.bench ∙ ap (λ (x : List ℕ). fed_all s x) (take_all at part h);
+        used = length k.fed;
+        inside = fed_inside;
+        bench = k.bench ∙ sym (ap (λ (x : List ℕ). fed_all s x) fed_first);
+        whole = λ g. k.bench ∙ ap (λ (x : List ℕ). fed_all s x) whole;
         goes_on = λ g. sym e ∙ not-true ended g;
       }

@@ -23,36 +23,27 @@ fn print_read<W: Write>(
     part: &[u8],
 ) -> Progress
     ensures fed { Spec.IsRead bench got part.now result }
-    ensures written { OnOk result.outcome ((rest : List ℕ) → (Spec.count got ≡ 0 → rest ≡ [])
+    ensures written { OnOk result.more ((rest : List ℕ) → (Spec.count got ≡ 0 → rest ≡ [])
         → Written (W.contents output.old) (W.contents output.new) bench (take (Spec.count got) part.now ++ rest) result rest) }
-    ensures read { OnOk result.outcome (IsOk got) }
+    ensures read { OnOk result.more (IsOk got) }
 {
-    let n = match got {
-        Ok(n) => n,
-        Err(error) => {
-            return Progress {
-                bench,
-                more: false,
-                outcome: Err(Failure::Input(error)),
-            };
-        }
-    };
-    let at_end = n == 0;
-    if at_end {
-        let outcome = print_end(output, bench);
-        return Progress {
+    match got {
+        Err(error) => Progress {
             bench,
-            more: false,
-            outcome,
-        };
+            more: Err(Failure::Input(error)),
+        },
+        Ok(0) => Progress {
+            bench,
+            more: print_end(output, bench).and(Ok(false)),
+        },
+        Ok(n) => print_part(output, bench, &part[..n.min(part.len())]),
     }
-    print_part(output, bench, &part[..n.min(part.len())])
 }
 
 // Reads once and prints what that gives.
 fn turn<R: Read, W: Write>(input: &mut R, output: &mut W, bench: Bench) -> Progress
     ensures fed { Spec.IsTurn bench result }
-    ensures written { OnOk result.outcome (IfSome (R.remaining input.old) (λ all. (rest : List ℕ)
+    ensures written { OnOk result.more (IfSome (R.remaining input.old) (λ all. (rest : List ℕ)
         × (R.remaining input.new ≡ Some rest)
         × Written (W.contents output.old) (W.contents output.new) bench all result rest)) }
 {
@@ -70,8 +61,7 @@ pub fn run<R: Read, W: Write>(input: &mut R, output: &mut W) -> Result<bool, Fai
     let mut bench = Bench::start();
     for _ in 0..u64::MAX {
         let progress = turn(input, output, bench);
-        progress.outcome?;
-        if !progress.more {
+        if !progress.more? {
             return Ok(true);
         }
         bench = progress.bench;

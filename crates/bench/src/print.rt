@@ -9,7 +9,7 @@ ghost use Rattle.bench_feed.specs.Input.{printed_at};
 ghost use Rattle.bench_output.specs.Output.{text_of};
 
 use bench_feed::state::Bench;
-use bench_filter::filter::{filter_part, finish};
+use bench_filter::filter::{Filtered, filter_part, finish};
 use std::io::Write;
 use std::{fmt, io};
 
@@ -23,7 +23,7 @@ pub enum Failure {
     Output(io::Error),
 }
 
-// As the program ends with it.
+// As the program ends with it: by hand, since `main` prints an error by Debug, and these are the words it has printed.
 impl fmt::Debug for Failure {
     fn fmt<W: fmt::Write>(&self, f: &mut fmt::Formatter<W>) -> fmt::Result {
         match self {
@@ -41,21 +41,17 @@ pub struct Printed {
     pub written: Result<(), Failure>,
 }
 
-// The program after a part of the input, whether there is to be another, and whether a read or a write failed.
+// The program after a part of the input, and whether there is to be another, where no read and no write failed.
 #[derive(Clone, Copy)]
 pub struct Progress {
     pub bench: Bench,
-    pub more: bool,
-    pub outcome: Result<(), Failure>,
+    pub more: Result<bool, Failure>,
 }
 
 fn write<W: Write>(output: &mut W, bytes: &[u8]) -> Result<(), Failure>
     ensures { OnOk result (Appends (W.contents output.old) (W.contents output.new) bytes.now) }
 {
-    match output.write_all(bytes) {
-        Ok(()) => Ok(()),
-        Err(error) => Err(Failure::Output(error)),
-    }
+    output.write_all(bytes).map_err(Failure::Output)
 }
 
 // Prints what one pass of the filter makes of a part of the input.
@@ -65,42 +61,37 @@ fn print_some<W: Write>(output: &mut W, bench: Bench, part: &[u8]) -> Printed
         (Appends (W.contents output.old) (W.contents output.new) (printed_at bench (take result.used part.now))) }
 {
     let mut out = [0u8; BUFFER];
-    let filtered = filter_part(bench, part, &mut out);
-    let next = filtered.bench;
-    let made = filtered.made;
+    let Filtered { bench, used, made } = filter_part(bench, part, &mut out);
     let written = write(output, &out[..made]);
     Printed {
-        bench: next,
-        used: filtered.used,
+        bench,
+        used,
         written,
     }
 }
 
-// Prints all that a part of the input gives.
+// Prints all that a part of the input gives. No `for`: how much a pass takes is known when it is done.
 pub fn print_part<W: Write>(output: &mut W, bench: Bench, part: &[u8]) -> Progress
     ensures fed { Spec.IsProgress bench part.now result }
-    ensures written { OnOk result.outcome ((rest : List ℕ)
+    ensures written { OnOk result.more ((rest : List ℕ)
         → Written (W.contents output.old) (W.contents output.new) bench (part.now ++ rest) result rest) }
 {
     let mut after = bench;
-    let mut at: usize = 0;
-    while at < part.len() {
-        let printed = print_some(output, after, &part[at..]);
+    let mut rest = part;
+    while !rest.is_empty() {
+        let printed = print_some(output, after, rest);
         after = printed.bench;
-        if printed.written.is_err() {
+        if let Err(failure) = printed.written {
             return Progress {
                 bench: after,
-                more: false,
-                outcome: printed.written,
+                more: Err(failure),
             };
         }
-        at += printed.used;
+        rest = &rest[printed.used..];
     }
-    let more = !after.is_ended();
     Progress {
         bench: after,
-        more,
-        outcome: Ok(()),
+        more: Ok(!after.is_ended()),
     }
 }
 

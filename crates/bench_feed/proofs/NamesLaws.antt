@@ -2,6 +2,7 @@
 use mathlib.Core.Bool.{Bool, true, false, ◌&&◌, cond}
 use mathlib.Core.List.{List, [], ◌∷◌, ◌++◌}
 use mathlib.Core.Path.{◌≡◌, refl, sym, ap, ◌∙◌}
+use Rattle.std.specs.Prelude.{Option, Some, None}
 use Prim.Native.Nat.{ℕ, zero, suc, ◌+◌, ◌≤◌, ◌<◌}
 use native.Mathlib.Numerals.{add-one}
 use native.Mathlib.Omega.{arith}
@@ -9,21 +10,21 @@ use lib.Dec.{eqb, ltb}
 use lib.ListN.{drop, get_or}
 use lib.Seq.{drop-cons}
 use borrow.Author.Tests.{ltb-true, ltb-false}
-use Rattle.bench_feed.specs.First.{names_fed}
+use Rattle.bench_feed.specs.First.{is_whole, names_fed}
 use Rattle.bench_feed.specs.Printed.{names_line, same_bytes}
 
 -- how many bytes are as the names line has them, after some bytes
-abbrev pub matched_all : ℕ → List ℕ → ℕ
+abbrev pub matched_all : Option ℕ → List ℕ → Option ℕ
 matched_all matched [] = matched
 matched_all matched (b ∷ bs) = matched_all (names_fed matched b) bs
 
 -- one byte more
-pub matched_one : (m : ℕ) (bs : List ℕ) (b : ℕ) → matched_all m (bs ++ (b ∷ [])) ≡ names_fed (matched_all m bs) b
+pub matched_one : (m : Option ℕ) (bs : List ℕ) (b : ℕ) → matched_all m (bs ++ (b ∷ [])) ≡ names_fed (matched_all m bs) b
 matched_one m [] b = refl
 matched_one m (x ∷ bs) b = matched_one (names_fed m x) bs b
 
 -- another line stays another
-other_stays : (bs : List ℕ) → matched_all 6 bs ≡ 6
+other_stays : (bs : List ℕ) → matched_all None bs ≡ None
 unfolding names_fed
 other_stays [] = refl
 other_stays (b ∷ bs) = other_stays bs
@@ -42,18 +43,18 @@ whole_line (suc (suc (suc (suc (suc (suc m)))))) h = absurd (none h)
     none p = omega arith
 
 -- a byte as the names line has it, or another
-byte_matched : (m : ℕ) (bs rest : List ℕ) (t : Bool) → eqb (matched_all (m + 1) bs) 5 ≡ same_bytes bs rest
-    → eqb (matched_all (cond t (m + 1) 6) bs) 5 ≡ (t && same_bytes bs rest)
+byte_matched : (m : ℕ) (bs rest : List ℕ) (t : Bool) → is_whole (matched_all (Some (m + 1)) bs) ≡ same_bytes bs rest
+    → is_whole (matched_all (cond t (Some (m + 1)) None) bs) ≡ (t && same_bytes bs rest)
 byte_matched m bs rest true e = e
-byte_matched m bs rest false e = ap (λ (k : ℕ). eqb k 5) (other_stays bs)
+byte_matched m bs rest false e = ap is_whole (other_stays bs)
 
-matched_from : (m : ℕ) (bs : List ℕ) → m ≤ 5 → eqb (matched_all m bs) 5 ≡ same_bytes bs (drop m names_line)
+matched_from : (m : ℕ) (bs : List ℕ) → m ≤ 5 → is_whole (matched_all (Some m) bs) ≡ same_bytes bs (drop m names_line)
 unfolding names_fed same_bytes
 matched_from m [] h = whole_line m h
 matched_from m (b ∷ bs) h = go (ltb m 5) refl (λ k. matched_from (m + 1) bs k)
   where
-    go : (t : Bool) → ltb m 5 ≡ t → (m + 1 ≤ 5 → eqb (matched_all (m + 1) bs) 5 ≡ same_bytes bs (drop (m + 1) names_line))
-        → eqb (matched_all (cond (t && eqb b (get_or names_line m 0)) (m + 1) 6) bs) 5 ≡ same_bytes (b ∷ bs) (drop m names_line)
+    go : (t : Bool) → ltb m 5 ≡ t → (m + 1 ≤ 5 → is_whole (matched_all (Some (m + 1)) bs) ≡ same_bytes bs (drop (m + 1) names_line))
+        → is_whole (matched_all (cond (t && eqb b (get_or names_line m 0)) (Some (m + 1)) None) bs) ≡ same_bytes (b ∷ bs) (drop m names_line)
     go true e rest =
         let h : m < 5 = ltb-true m 5 e in
         byte_matched m bs (drop (suc m) names_line) (eqb b (get_or names_line m 0))
@@ -62,7 +63,7 @@ matched_from m (b ∷ bs) h = go (ltb m 5) refl (λ k. matched_from (m + 1) bs k
     go false e rest =
         let k = ltb-false m 5 e in
         let five : m ≡ 5 = omega arith in
-        ap (λ (k : ℕ). eqb k 5) (other_stays bs) ∙ sym (ap (λ (k : ℕ). same_bytes (b ∷ bs) (drop k names_line)) five)
+        ap is_whole (other_stays bs) ∙ sym (ap (λ (k : ℕ). same_bytes (b ∷ bs) (drop k names_line)) five)
 
-pub names_matched : (bs : List ℕ) → eqb (matched_all 0 bs) 5 ≡ same_bytes bs names_line
+pub names_matched : (bs : List ℕ) → is_whole (matched_all (Some 0) bs) ≡ same_bytes bs names_line
 names_matched bs = matched_from 0 bs (omega arith)

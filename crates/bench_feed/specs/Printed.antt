@@ -1,5 +1,5 @@
 -- "Bench pack" of paper 01: the whole output of a whole input. Definitions only; assumes nothing.
-use Rattle.std.specs.Prelude.{Bool, true, false, ◌&&◌, cond, List, [], ◌∷◌, ◌++◌, ℕ, eqb}
+use Rattle.std.specs.Prelude.{Bool, true, false, ◌&&◌, cond, List, [], ◌∷◌, ◌++◌, ℕ, eqb, Some}
 use Rattle.bench_output.specs.Output.{text_of, heading_text, names_text}
 use Rattle.bench_window.specs.Answer.{line_answered}
 use Rattle.configuration.specs.BenchPack.{bench_pack}
@@ -26,7 +26,7 @@ same_bytes (x ∷ xs) (y ∷ ys) = eqb x y && same_bytes xs ys
 -- "After the heading each window prints ..": the lines below the names line, from a gauge on
 unfoldable pub list_printed : Gauge → List (List ℕ) → List ℕ
 list_printed g [] = []
-list_printed g (l ∷ ls) = text_of (line_answered g (line l)).output ++ list_printed (line_answered g (line l)).gauge ls
+list_printed g (l ∷ ls) = text_of (Some (line_answered g (line l)).output) ++ list_printed (line_answered g (line l)).gauge ls
 
 -- "Another first line prints `names` in place of the heading and ends it." Where there is no line there is no names line
 unfoldable pub lines_printed : Gauge → List (List ℕ) → List ℕ

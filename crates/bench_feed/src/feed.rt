@@ -20,57 +20,46 @@ impl Bench {
         ensures parts { (parts : List (List ℕ)) → printed_of result parts ≡ printed (flatten parts) }
     {
         let pack = [0x04u8, 0x5E, 0x77, 0x05, 0x21, 0x10, 0x00, 0x00, 0x6C, 0x15];
-        let opened = open(&pack);
-        let gauge = opened.gauge;
-        let place = Place::First(0);
+        let gauge = open(&pack).unwrap();
+        let place = Place::First(Some(0));
         Bench { gauge, place }
     }
 
     // A further byte of the input.
+    #[tactic(auto, unfolding(crate::specs::Feed::fed, crate::specs::Feed::fed_at))]
     pub fn fed(self, byte: u8) -> Step
         ensures { result ≡ Spec.fed self byte }
     {
-        let gauge = self.gauge;
-        let place = self.place;
+        let Bench { gauge, place } = self;
         match place {
             Place::First(matched) => first_fed(gauge, matched, byte),
-            Place::Listed { begun: _, reading } => listed_fed(gauge, reading, byte),
+            Place::Listed(begun) => listed_fed(gauge, begun, byte),
             Place::Ended => Step {
-                bench: Bench {
-                    gauge,
-                    place: Place::Ended,
-                },
-                output: Output::Nothing,
+                bench: self,
+                output: None,
             },
         }
     }
 
     // What is printed at the end of the input.
-    pub fn last_output(self) -> Output
+    #[tactic(auto, unfolding(crate::specs::Feed::last_output, crate::specs::Feed::last_output_at))]
+    pub fn last_output(self) -> Option<Output>
         ensures { result ≡ Spec.last_output self }
     {
-        let gauge = self.gauge;
-        let place = self.place;
+        let Bench { gauge, place } = self;
         match place {
-            Place::First(matched) => first_output(matched),
-            Place::Listed { begun, reading } => line_output(gauge, begun, reading),
-            Place::Ended => Output::Nothing,
+            Place::First(matched) => Some(first_output(matched)),
+            Place::Listed(begun) => line_output(gauge, begun),
+            Place::Ended => None,
         }
     }
 
     // The first line was another, and nothing more is printed, whatever follows.
+    #[tactic(auto, using(crate::proofs::EndedLaws::nothing_more), unfolding(crate::specs::Feed::is_ended, crate::specs::Feed::ended_at))]
     pub fn is_ended(self) -> bool
         ensures value { result ≡ Spec.is_ended self }
         ensures nothing { result ≡ true → (input : List ℕ) → printed_from self input ≡ [] }
     {
-        let place = self.place;
-        match place {
-            Place::First(_) => false,
-            Place::Listed {
-                begun: _,
-                reading: _,
-            } => false,
-            Place::Ended => true,
-        }
+        matches!(self.place, Place::Ended)
     }
 }

@@ -1,68 +1,59 @@
 // The first line: "Another first line prints `names` in place of the heading and ends it."
-ghost use Rattle.std.specs.Prelude.{◌≡◌, ◌<◌, get_or};
+ghost use Rattle.std.specs.Prelude.{◌≡◌};
 ghost use Rattle.bench_feed.specs.First as Spec;
-ghost use Rattle.bench_feed.specs.Printed.{names_line};
 
-use crate::list::fresh;
 use crate::state::{Bench, NEWLINE, Place, Step};
 use bench_output::output::Output;
 use gauge::state::Gauge;
 
-// "c v t"
-const NAMES: [u8; 5] = [99, 32, 118, 32, 116];
+// The names line.
+const NAMES: [u8; 5] = *b"c v t";
 
 // How many bytes of the first line are as the names line has them: all of it.
 const WHOLE: u8 = 5;
 
-// It is another line.
-const ANOTHER: u8 = 6;
-
-fn names_byte(at: u8) -> u8
-    requires { at < Spec.whole }
-    ensures { result ≡ get_or names_line at 0 }
-{
-    NAMES[at as usize]
-}
-
 // A further byte of the first line.
-fn names_fed(matched: u8, byte: u8) -> u8
+#[tactic(auto, unfolding(crate::specs::First::names_fed))]
+fn names_fed(matched: Option<u8>, byte: u8) -> Option<u8>
     ensures { result ≡ Spec.names_fed matched byte }
 {
-    if WHOLE <= matched {
-        return ANOTHER;
+    let so_far = matched?;
+    if so_far < WHOLE && byte == NAMES[usize::from(so_far)] {
+        Some(so_far + 1)
+    } else {
+        None
     }
-    if byte == names_byte(matched) {
-        return matched + 1;
-    }
-    ANOTHER
 }
 
 // What the end of the first line prints.
-pub fn first_output(matched: u8) -> Output
+#[tactic(auto, unfolding(crate::specs::First::first_output))]
+pub fn first_output(matched: Option<u8>) -> Output
     ensures { result ≡ Spec.first_output matched }
 {
-    if matched == WHOLE {
-        return Output::Heading;
+    match matched {
+        Some(WHOLE) => Output::Heading,
+        _ => Output::Names,
     }
-    Output::Names
 }
 
-fn after_first(matched: u8) -> Place
+#[tactic(auto, unfolding(crate::specs::First::after_first))]
+fn after_first(matched: Option<u8>) -> Place
     ensures { result ≡ Spec.after_first matched }
 {
-    if matched == WHOLE {
-        return fresh();
+    match matched {
+        Some(WHOLE) => Place::Listed(None),
+        _ => Place::Ended,
     }
-    Place::Ended
 }
 
 // A byte in the first line, the newline that ends it among them.
-pub fn first_fed(gauge: Gauge, matched: u8, byte: u8) -> Step
+#[tactic(auto, unfolding(crate::specs::First::fed_first))]
+pub fn first_fed(gauge: Gauge, matched: Option<u8>, byte: u8) -> Step
     ensures { result ≡ Spec.fed_first gauge matched byte }
 {
     if byte == NEWLINE {
         let place = after_first(matched);
-        let output = first_output(matched);
+        let output = Some(first_output(matched));
         return Step {
             bench: Bench { gauge, place },
             output,
@@ -71,6 +62,6 @@ pub fn first_fed(gauge: Gauge, matched: u8, byte: u8) -> Step
     let place = Place::First(names_fed(matched, byte));
     Step {
         bench: Bench { gauge, place },
-        output: Output::Nothing,
+        output: None,
     }
 }

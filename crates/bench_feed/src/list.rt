@@ -4,54 +4,37 @@ ghost use Rattle.bench_feed.specs.Listed as Spec;
 
 use crate::state::{Bench, NEWLINE, Place, Step};
 use bench_output::output::Output;
-use bench_window::answer::answer_line;
+use bench_window::answer::{Answered, answer_line};
 use gauge::state::Gauge;
 use lines::line::Reading;
 
-// A line of the list is to begin.
-pub fn fresh() -> Place
-    ensures { result ≡ Spec.fresh }
-{
-    Place::Listed {
-        begun: false,
-        reading: Reading::start(),
-    }
-}
-
 // A byte in a line of the list, the newline that ends it among them.
-pub fn listed_fed(gauge: Gauge, reading: Reading, byte: u8) -> Step
-    ensures { result ≡ Spec.fed_listed gauge reading byte }
+#[tactic(auto, unfolding(crate::specs::Listed::fed_listed))]
+pub fn listed_fed(gauge: Gauge, begun: Option<Reading>, byte: u8) -> Step
+    ensures { result ≡ Spec.fed_listed gauge begun byte }
 {
+    let reading = begun.unwrap_or(Reading::start());
     if byte == NEWLINE {
-        let end = answer_line(gauge, reading.line());
-        let after = end.gauge;
-        let output = end.output;
-        let place = fresh();
+        let Answered { gauge, output } = answer_line(gauge, reading.line());
         return Step {
             bench: Bench {
-                gauge: after,
-                place,
+                gauge,
+                place: Place::Listed(None),
             },
-            output,
+            output: Some(output),
         };
     }
-    let place = Place::Listed {
-        begun: true,
-        reading: reading.fed(byte),
-    };
+    let place = Place::Listed(Some(reading.fed(byte)));
     Step {
         bench: Bench { gauge, place },
-        output: Output::Nothing,
+        output: None,
     }
 }
 
 // What the end of the input prints in a line of the list: "A last newline begins no further line."
-pub fn line_output(gauge: Gauge, begun: bool, reading: Reading) -> Output
-    ensures { result ≡ Spec.line_output gauge begun reading }
+#[tactic(auto, unfolding(crate::specs::Listed::line_output))]
+pub fn line_output(gauge: Gauge, begun: Option<Reading>) -> Option<Output>
+    ensures { result ≡ Spec.line_output gauge begun }
 {
-    if begun {
-        let end = answer_line(gauge, reading.line());
-        return end.output;
-    }
-    Output::Nothing
+    Some(answer_line(gauge, begun?.line()).output)
 }

@@ -4,27 +4,27 @@ use gauge::state::Gauge;
 use lines::line::Reading;
 
 // Where in its input the program is.
-#[derive(Clone, Copy)]
+#[derive(Clone, Copy, Debug, PartialEq, Eq)]
 pub enum Place {
-    // in the first line: so many bytes of it, all as the names line has them, or 6 where it is another line
-    First(u8),
-    // in a line of the list, of which a byte has begun it or none
-    Listed { begun: bool, reading: Reading },
+    // in the first line: so many bytes of it, all as the names line has them, or none where it is another line
+    First(Option<u8>),
+    // in a line of the list, or none where no byte has begun it
+    Listed(Option<Reading>),
     // after another first line
     Ended,
 }
 
-#[derive(Clone, Copy)]
+#[derive(Clone, Copy, Debug, PartialEq, Eq)]
 pub struct Bench {
     pub gauge: Gauge,
     pub place: Place,
 }
 
 // The program after a byte, and what it prints at that byte.
-#[derive(Clone, Copy)]
+#[derive(Clone, Copy, Debug, PartialEq, Eq)]
 pub struct Step {
     pub bench: Bench,
-    pub output: Output,
+    pub output: Option<Output>,
 }
 
 pub const NEWLINE: u8 = 10;

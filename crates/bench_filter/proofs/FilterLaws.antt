@@ -1,6 +1,6 @@
 -- The filter's turns: what holds after each, and what that gives where it stops. Assumes nothing.
 use mathlib.Core.List.{List, [], ◌∷◌, ◌++◌, append_assoc}
-use mathlib.Core.Path.{◌≡◌, refl, sym, ap, ◌∙◌}
+use mathlib.Core.Path.{◌≡◌, refl, sym, ap, ◌∙◌, subst}
 use Prim.Native.Nat.{ℕ, ◌+◌, ◌-◌, ◌≤◌, ◌<◌}
 use native.Mathlib.Numerals.{add-one}
 use native.Mathlib.Omega.{arith}
@@ -92,7 +92,7 @@ module _ (s : Bench) (part out₀ : List ℕ) (q : Bench) (used made : ℕ) (out
       let l = k.left in
       omega arith
 
-  pub goes_on : used < length part → room ≤ length out - made → (step : Step) → step ≡ fed q byte
+  pub goes_on : used < length part → made + room ≤ length out → (step : Step) → step ≡ fed q byte
       → (next : ℕ) (after : List ℕ) → IsOutput (text_of step.output) out made next after
       → Filtering s part out₀ step.bench (used + 1) next after
   goes_on h free step e next after p =
@@ -151,13 +151,16 @@ module _ (s : Bench) (part out₀ : List ℕ) (q : Bench) (used made : ℕ) (out
         progress = λ free some. let one = taken_one (length out₀) s part 0 some free in omega arith;
       }
 
-  pub stops_done : length part ≤ used → IsFiltered s part out₀ (record { bench = q; used = used; made = made }) out
+  -- the part has no further byte
+  pub stops_done : length part ≤ used → IsFiltered s part out₀ (record { bench = q; used = length part; made = made }) out
   stops_done h =
       let none = taken_none (length out₀ - made) q part used h in
       let l = k.left in
-      stops (omega arith)
+      let i = k.inside in
+      let all : used ≡ length part = omega arith in
+      subst (λ (n : ℕ). IsFiltered s part out₀ (record { bench = q; used = n; made = made }) out) all (stops (omega arith))
 
-  pub stops_full : used < length part → length out - made < room → IsFiltered s part out₀ (record { bench = q; used = used; made = made }) out
+  pub stops_full : used < length part → length out < made + room → IsFiltered s part out₀ (record { bench = q; used = used; made = made }) out
   stops_full h full =
       let long = k.long in
       let none = taken_full (length out₀ - made) q part used h (omega arith) in

@@ -7,9 +7,10 @@ ghost use Rattle.lines.specs.Put.{place_after, put_at};
 
 use bench_feed::state::Bench;
 use bench_output::put::{ROOM, put_output};
+use lines::put::has_room;
 
 // The program afterwards, how many bytes of the part it took, and how many it made.
-#[derive(Clone, Copy)]
+#[derive(Clone, Copy, Debug, PartialEq, Eq)]
 pub struct Filtered {
     pub bench: Bench,
     pub used: usize,
@@ -20,26 +21,23 @@ pub struct Filtered {
 pub fn filter_part(bench: Bench, part: &[u8], out: &mut [u8]) -> Filtered
     ensures { Spec.IsFiltered bench part.now out.old result out.new }
 {
-    let mut now_bench = bench;
-    let mut used: usize = 0;
-    let mut made: usize = 0;
-    while used < part.len() {
-        if out.len() - made < ROOM {
+    let mut after = bench;
+    let mut made = 0;
+    for (used, &byte) in part.iter().enumerate() {
+        if !has_room(out, made, ROOM) {
             return Filtered {
-                bench: now_bench,
+                bench: after,
                 used,
                 made,
             };
         }
-        let step = now_bench.fed(part[used]);
-        let output = step.output;
-        made = put_output(output, out, made);
-        now_bench = step.bench;
-        used += 1;
+        let step = after.fed(byte);
+        made = put_output(step.output, out, made);
+        after = step.bench;
     }
     Filtered {
-        bench: now_bench,
-        used,
+        bench: after,
+        used: part.len(),
         made,
     }
 }

@@ -1,20 +1,18 @@
 -- An output put where there is room for it: what the calls of `put_number` and `put_text` give together. Each law takes the callees'
 -- contracts over plain variables. Assumes nothing.
 use mathlib.Core.List.{List, [], ◌∷◌, ◌++◌}
-use mathlib.Core.Path.{◌≡◌, refl, sym, ap, ◌∙◌, subst}
+use mathlib.Core.Path.{◌≡◌, sym, subst}
 use Prim.Native.Nat.{ℕ, ◌+◌, ◌≤◌, ◌<◌}
 use native.Mathlib.Omega.{arith}
 use lib.ListN.{length}
 use lib.Seq.{sets}
-use mir.Syntax.{w8, w16, w32}
+use mir.Syntax.{w32}
 use mir.Val.{Fits}
 use Rattle.lines.proofs.DecimalLaws.{at_most_eleven}
-use Rattle.lines.proofs.PutLaws.{Stored, stored, stored_length, stored_then, put_here, place_here, put_nothing, place_kept}
+use Rattle.lines.proofs.PutLaws.{Stored, stored, stored_length, stored_then}
 use Rattle.lines.specs.Decimal.{decimal}
 use Rattle.lines.specs.Put.{place_after, put_at}
-use Rattle.bench_output.specs.Output.{room, refused_text, registers_text, text_of}
-use Rattle.bench_output.specs.declared.output.Output.{Output}
-use Rattle.bench_output.specs.declared.output.Output.TheVariants.{Nothing}
+use Rattle.bench_output.specs.Output.{room, refused_text, registers_text}
 
 -- what a callee promises of a text: so many bytes of room are asked for, the next place, the bytes afterwards
 abbrev pub Asked : ℕ → List ℕ → List ℕ → ℕ → ℕ → List ℕ → Type 0
@@ -47,20 +45,22 @@ number_put n b out at next after small free p =
     record { text = s; within = omega arith; long = stored_length (number_text n b) out at next after s }
 
 -- four numbers, each behind the one before it
-pub registers_put : (nac lmd rsoc flags : ℕ) → Fits w16 nac → Fits w16 lmd → Fits w8 rsoc → Fits w8 flags
+pub registers_put : (nac lmd rsoc flags : ℕ) → nac < 4_294_967_296 → lmd < 4_294_967_296 → rsoc < 4_294_967_296 → flags < 4_294_967_296
     → (out one two three four : List ℕ) (at a b c d : ℕ) → at + room ≤ length out
     → Asked 11 (number_text nac 32) out at a one → Asked 11 (number_text lmd 32) one a b two
     → Asked 11 (number_text rsoc 32) two b c three → Asked 11 (number_text flags 10) three c d four
-    → IsPut (registers_text nac lmd rsoc flags) out at d four
+    → (n l r f : ℕ) → nac ≡ n → lmd ≡ l → rsoc ≡ r → flags ≡ f → IsPut (registers_text n l r f) out at d four
 unfolding registers_text
-registers_put nac lmd rsoc flags hn hl hr hf out one two three four at a b c d free p q r s =
+registers_put nac lmd rsoc flags hn hl hr hf out one two three four at a b c d free p q r s n l m f en el er ef =
     let first = number_put nac 32 out at a one (omega arith) (omega arith) p in
     let second = number_put lmd 32 one a b two (omega arith) (omega arith) q in
     let third = number_put rsoc 32 two b c three (omega arith) (omega arith) r in
     let fourth = number_put flags 10 three c d four (omega arith) (omega arith) s in
     let last = stored_then (number_text rsoc 32) (number_text flags 10) two three four b c d third.text fourth.text in
     let later = stored_then (number_text lmd 32) _ one two four a b d second.text last in
-    put_of _ out at d four (stored_then (number_text nac 32) _ out one four at a d first.text later) (omega arith)
+    let all = put_of _ out at d four (stored_then (number_text nac 32) _ out one four at a d first.text later) (omega arith) in
+    let same : registers_text nac lmd rsoc flags ≡ registers_text n l m f = cc in
+    subst (λ (t : List ℕ). IsPut t out at d four) same all
 
 -- a word, then a number behind it
 pub refused_put : (word : List ℕ) (number : ℕ) → refused_text number ≡ word ++ number_text number 10 → length word ≤ 8 → Fits w32 number
@@ -75,26 +75,6 @@ refused_put word number e short small out one two at a b free p q =
     let both = stored_then word (number_text number 10) out one two at a b first second.text in
     subst (λ (t : List ℕ). IsPut t out at b two) (sym e) (put_of _ out at b two both (omega arith))
 
--- ---- the text of an output, once its case is known
-
-pub case_put : (output case : Output) (out after : List ℕ) (at next : ℕ) → output ≡ case → IsPut (text_of case) out at next after
-    → IsPut (text_of output) out at next after
-case_put output case out after at next e s = subst (λ (x : Output). IsPut (text_of x) out at next after) (sym e) s
-
-pub nothing_put : (output : Output) (out : List ℕ) (at : ℕ) → output ≡ Nothing → IsPut (text_of output) out at at out
-unfolding text_of
-nothing_put output out at e =
-    case_put output Nothing out out at at e (record { place = omega arith; bytes = refl; within = omega arith })
-
--- a text as it is
-pub text_put : (output case : Output) (text : List ℕ) → output ≡ case → text_of case ≡ text → length text ≤ room
-    → (out : List ℕ) (at next : ℕ) (after : List ℕ) → at + room ≤ length out → Asked (length text) text out at next after
-    → IsPut (text_of output) out at next after
-text_put output case text e f short out at next after free p =
-    let s = stored (length text) text out at next after (omega arith) p.place p.bytes in
-    let place = s.place in
-    subst (λ (t : List ℕ). IsPut t out at next after) (sym (ap text_of e ∙ f)) (put_of text out at next after s (omega arith))
-
 -- ---- with and without room
 
 -- what `put_output` promises
@@ -104,16 +84,3 @@ IsOutput text out at next after = record {
   bytes : after ≡ put_at room text out at;
   within : at ≤ length out → next ≤ length out;
 }
-
-pub no_room : (text out : List ℕ) (at : ℕ) → length out < at + room → IsOutput text out at at out
-no_room text out at h =
-    record { place = place_kept room text out at h; bytes = put_nothing room text out at h; within = λ k. k }
-
-pub with_room : (text out : List ℕ) (at next : ℕ) (after : List ℕ) → at + room ≤ length out → IsPut text out at next after
-    → IsOutput text out at next after
-with_room text out at next after h p =
-    let within = p.within in record {
-      place = p.place ∙ place_here room text out at h;
-      bytes = p.bytes ∙ put_here room text out at h;
-      within = λ k. omega arith;
-    }

@@ -1,8 +1,9 @@
 -- What the bench program prints at the end of a line, as text. Definitions only; assumes nothing.
-use Rattle.std.specs.Prelude.{List, [], ◌∷◌, ◌++◌, ℕ}
+use Rattle.std.specs.Prelude.{List, [], ◌∷◌, ◌++◌, ℕ, Option, Some, None}
 use Rattle.lines.specs.Decimal.{decimal}
 use Rattle.bench_output.specs.declared.output.Output.{Output}
-use Rattle.bench_output.specs.declared.output.Output.TheVariants.{Nothing, Heading, Names, Unread, Refused, Registers}
+use Rattle.bench_output.specs.declared.output.Output.TheVariants.{Heading, Names, Unread, Refused, Registers}
+use Rattle.refusals.specs.Refusal as Refusal
 
 -- the room that an output is given; no text is longer
 abbrev pub room : ℕ
@@ -30,11 +31,11 @@ unfoldable pub registers_text : ℕ → ℕ → ℕ → ℕ → List ℕ
 registers_text nac lmd rsoc flags =
     (decimal nac ++ (32 ∷ [])) ++ ((decimal lmd ++ (32 ∷ [])) ++ ((decimal rsoc ++ (32 ∷ [])) ++ (decimal flags ++ (10 ∷ []))))
 
--- "Bench pack": the text of each
-unfoldable pub text_of : Output → List ℕ
-text_of Nothing = []
-text_of Heading = heading_text
-text_of Names = names_text
-text_of Unread = unread_text
-text_of (Refused number) = refused_text number
-text_of (Registers nac lmd rsoc flags) = registers_text nac lmd rsoc flags
+-- "Bench pack": the text of each; a byte that ends no line prints nothing
+unfoldable pub text_of : Option Output → List ℕ
+text_of None = []
+text_of (Some Heading) = heading_text
+text_of (Some Names) = names_text
+text_of (Some Unread) = unread_text
+text_of (Some (Refused refusal)) = refused_text (Refusal.number refusal)
+text_of (Some (Registers nac lmd rsoc flags)) = registers_text nac lmd rsoc flags

@@ -1,14 +1,14 @@
 // What the bench program prints at the end of a line.
-#[derive(Clone, Copy)]
+use refusals::Refusal;
+
+#[derive(Clone, Copy, Debug, PartialEq, Eq)]
 pub enum Output {
-    Nothing,
     Heading,
     // the first line is another than the names line
     Names,
     // a line that is not three whole numbers
     Unread,
-    // the number of a refusal
-    Refused(u32),
+    Refused(Refusal),
     // the registers after a window
     Registers {
         nac: u16,

@@ -1,2 +1,3 @@
 pub mod AnswerLaws
+pub mod RefusedLaws
 pub mod ShownLaws

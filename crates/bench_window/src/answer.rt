@@ -5,40 +5,33 @@ ghost use Rattle.bench_window.specs.Answer as Spec;
 use crate::shown::registers_output;
 use bench_output::output::Output;
 use gauge::state::Gauge;
-use lines::line::Line;
 
 // The gauge after a line, and what is printed for it.
-#[derive(Clone, Copy)]
+#[derive(Clone, Copy, Debug, PartialEq, Eq)]
 pub struct Answered {
     pub gauge: Gauge,
     pub output: Output,
 }
 
-// What is printed for a window with this number and the gauge after it.
-fn answer_output(number: u32, gauge: Gauge) -> Output
-    ensures { result ≡ Spec.answer_output number gauge }
-{
-    if number == 0 {
-        return registers_output(gauge);
-    }
-    Output::Refused(number)
-}
-
 // A line as it is read: its window, or none where it is not three whole numbers.
-pub fn answer_line(gauge: Gauge, line: Line) -> Answered
+#[tactic(auto, unfolding(crate::specs::Answer::line_answered))]
+pub fn answer_line(gauge: Gauge, line: Option<(i32, i32, i32)>) -> Answered
     ensures { result ≡ Spec.line_answered gauge line }
 {
-    let Line::Numbers(a, v, t) = line else {
+    let Some((current, voltage, temperature)) = line else {
         return Answered {
             gauge,
             output: Output::Unread,
         };
     };
-    let answer = gauge.window(a, v, t);
-    let after = answer.gauge;
-    let output = answer_output(answer.number, after);
-    Answered {
-        gauge: after,
-        output,
+    match gauge.window(current, voltage, temperature) {
+        Ok(after) => Answered {
+            gauge: after,
+            output: registers_output(after),
+        },
+        Err(refusal) => Answered {
+            gauge,
+            output: Output::Refused(refusal),
+        },
     }
 }

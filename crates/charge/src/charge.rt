@@ -11,7 +11,7 @@ use grains::learning::learned;
 use grains::run::Run;
 use sample::current::Current;
 
-#[derive(Clone, Copy)]
+#[derive(Clone, Copy, Debug, PartialEq, Eq)]
 pub struct Charge {
     // h, grains
     pub held: u64,
@@ -22,16 +22,19 @@ pub struct Charge {
 }
 
 // A run over the counted current: charging ends it, and its drain must not pass.
+#[tactic(auto, unfolding(crate::specs::Charge::run_moved))]
 fn run_moved(run: Run, charging: bool, drawn: u64) -> Run
     ensures { result ≡ Spec.run_moved charging drawn run }
 {
     if charging {
-        return Run::none();
+        Run::none()
+    } else {
+        run.drained(drawn).unless_passed()
     }
-    run.drained(drawn).unless_passed()
 }
 
 // What is held over the counted current. An empty stop is where the difference stops at 0.
+#[tactic(auto, using(crate::proofs::ChargeLaws::stop_is_difference), unfolding(crate::specs::Charge::held_moved))]
 fn held_moved(held: u64, current: Current) -> u64
     ensures { result ≡ Spec.held_moved current held }
 {
@@ -40,80 +43,83 @@ fn held_moved(held: u64, current: Current) -> u64
 }
 
 impl Charge {
+    #[tactic(auto, unfolding(crate::specs::Charge::opened_charge))]
     pub fn opened(settings: Settings) -> Charge
         ensures { result ≡ Spec.opened_charge (terms_of settings) }
     {
-        let lmd = design_capacity(settings);
-        let run = Run::none();
-        Charge { held: 0, lmd, run }
+        Charge {
+            held: 0,
+            lmd: design_capacity(settings),
+            run: Run::none(),
+        }
     }
 
     // The leak of one window.
+    #[tactic(auto, unfolding(crate::specs::Charge::leaked))]
     pub fn leaked(mut self, rate: u16) -> Charge
         ensures { result ≡ Spec.leaked rate self }
     {
         let grains = leak(self.held, rate);
-        let run = self.run.drained(grains);
         self.held = saturating_difference(self.held, grains);
-        self.run = run;
+        self.run = self.run.drained(grains);
         self
     }
 
     // The counted current of one window.
+    #[tactic(auto, unfolding(crate::specs::Charge::moved))]
     pub fn moved(mut self, current: Current) -> Charge
         ensures { result ≡ Spec.moved current self }
     {
-        let run = self.run;
-        let moved = run_moved(
-            run,
-            current.charging,
-            grains_of_current(current.discharge_current()),
-        );
+        let drawn = grains_of_current(current.discharge_current());
         self.held = held_moved(self.held, current);
-        self.run = moved;
+        self.run = run_moved(self.run, current.charging, drawn);
         self
     }
 
     // Full.
+    #[tactic(auto, unfolding(crate::specs::Charge::filled))]
     pub fn filled(mut self) -> Charge
         ensures { result ≡ Spec.filled self }
     {
-        let run = Run::started();
         self.held = grains_of_counts(self.lmd);
-        self.run = run;
+        self.run = Run::started();
         self
     }
 
     // The voltage at or below EDVF.
+    #[tactic(auto, unfolding(crate::specs::Charge::emptied))]
     pub fn emptied(mut self) -> Charge
         ensures { result ≡ Spec.emptied self }
     {
-        let run = Run::none();
         self.held = 0;
-        self.run = run;
+        self.run = Run::none();
         self
     }
 
     // The run ended, all else kept.
+    #[tactic(auto, unfolding(crate::specs::Charge::without_run))]
     pub fn without_run(mut self) -> Charge
         ensures { result ≡ Spec.without_run self }
     {
-        let run = Run::none();
-        self.run = run;
+        self.run = Run::none();
         self
     }
 
     // A run that qualifies teaches.
+    #[tactic(auto, unfolding(crate::specs::Charge::taught))]
     pub fn taught(self) -> Charge
         ensures { result ≡ Spec.taught self }
     {
         let lmd = learned(self.lmd, self.run.dcr);
-        let held = grains_of_counts(lmd / 16);
-        let run = Run::none();
-        Charge { held, lmd, run }
+        Charge {
+            held: grains_of_counts(lmd / 16),
+            lmd,
+            run: Run::none(),
+        }
     }
 
     // What 14 asks of the charge.
+    #[tactic(auto, unfolding(crate::specs::Charge::charge_accepted))]
     pub fn accepted(self) -> bool
         ensures { result ≡ Spec.charge_accepted self }
     {
@@ -123,7 +129,6 @@ impl Charge {
         if grains_of_counts(self.lmd) < self.held {
             return false;
         }
-        let run = self.run;
-        run.accepted()
+        self.run.accepted()
     }
 }

@@ -7,6 +7,7 @@ use grains::rest::rest_leak;
 
 impl Charge {
     // n windows of a rest. The rate is the same in each. The run gains their leaks at once: a drain that passes in one of them passes by the sum.
+    #[tactic(auto, using(crate::proofs::RestLaws::rested_is, crate::proofs::RestLaws::rested_none))]
     pub fn rested(mut self, windows: u32, rate: u16) -> Charge
         ensures { result ≡ Spec.rested windows rate self }
     {
@@ -14,9 +15,8 @@ impl Charge {
             return self;
         }
         let grains = rest_leak(self.held, windows, rate);
-        let run = self.run.drained(grains).unless_passed();
         self.held -= grains;
-        self.run = run;
+        self.run = self.run.drained(grains).unless_passed();
         self
     }
 }

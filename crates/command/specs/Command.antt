@@ -1,12 +1,11 @@
 -- "Opening and host bytes" of paper 01: which command a key at CTRL obeys, and the refusals 8 to 11. Definitions only; assumes nothing.
-use Rattle.std.specs.Prelude.{Bool, false, cond, ◌&&◌, ◌||◌, List, [], ◌∷◌, ℕ, eqb}
-use Rattle.std.proofs.Math.Option.{Option, none, some}
+use Rattle.std.specs.Prelude.{Bool, false, cond, ◌&&◌, ◌||◌, List, [], ◌∷◌, ℕ, eqb, Option, Some, None, Result, Ok, Err}
 use Rattle.numbers.specs.Bits.{bit_set}
 use Rattle.refusals.specs.Refusal as Refusal
+use Rattle.refusals.specs.declared.Refusal as Declared
+use Rattle.refusals.specs.declared.Refusal.TheVariants.{UnknownKey, NoCommandBit, NotCarried, WrtlmdZero}
 use Rattle.command.specs.declared.command.Command.{Command}
 use Rattle.command.specs.declared.command.Command.TheVariants.{Setting, Reset}
-use Rattle.command.specs.declared.command.Decision.{Decision}
-use Rattle.command.specs.declared.command.Decision.TheVariants.{Obey, Refused}
 use Rattle.command.specs.declared.command.Reset.TheVariants.{Prst, Frst}
 use Rattle.command.specs.declared.command.Setting.TheVariants.{Wrtnac, Done, Wrtlmd}
 
@@ -23,6 +22,10 @@ highest_command_bit mode =
     (cond (bit_set 1 mode) 1
     (cond (bit_set 0 mode) 0 no_bit))))
 
+-- that bit, if one is set
+abbrev pub command_bit : ℕ → Option ℕ
+command_bit mode = cond (eqb (highest_command_bit mode) no_bit) None (Some (highest_command_bit mode))
+
 -- the number of each command: "1 WRTNAC, 2 DONE, 3 PRST, 4 FRST, 5 WRTLMD"
 abbrev pub command_number : Command → ℕ
 command_number (Setting Wrtnac) = 1
@@ -30,6 +33,10 @@ command_number (Setting Done) = 2
 command_number (Reset Prst) = 3
 command_number (Reset Frst) = 4
 command_number (Setting Wrtlmd) = 5
+
+-- what a key at CTRL means: a command, or its refusal
+abbrev pub Decision : Type 0
+Decision = Result Command Declared.Refusal
 
 abbrev pub is_wrtlmd : Command → Bool
 is_wrtlmd command = eqb (command_number command) (command_number (Setting Wrtlmd))
@@ -68,29 +75,30 @@ is_key key (k ∷ keys) = eqb key k || is_key key keys
 
 -- the command of the first row with the key and the bit
 abbrev pub command_at : ℕ → ℕ → List Row → Option Command
-command_at key bit [] = none
-command_at key bit (r ∷ rows) = cond (eqb key r.key && eqb bit r.bit) (some r.command) (command_at key bit rows)
+command_at key bit [] = None
+command_at key bit (r ∷ rows) = cond (eqb key r.key && eqb bit r.bit) (Some r.command) (command_at key bit rows)
 
 -- 10, "not carried"; 11, "WRTLMD with AR 0"
 abbrev pub decide_row : ℕ → Option Command → Decision
-decide_row ar none = Refused Refusal.not_carried
-decide_row ar (some command) = cond (is_wrtlmd command && eqb ar 0) (Refused Refusal.wrtlmd_zero) (Obey command)
+decide_row ar None = Err NotCarried
+decide_row ar (Some command) = cond (is_wrtlmd command && eqb ar 0) (Err WrtlmdZero) (Ok command)
 
--- what a key means with the highest command bit and AR, by a table: 8, a key that is not known; 9, "no command bit"; then the row
-unfoldable pub decide_by : Table → ℕ → ℕ → ℕ → Decision
-decide_by table key bit ar =
-    cond (is_key key table.keys)
-    (cond (eqb bit no_bit) (Refused Refusal.no_command_bit) (decide_row ar (command_at key bit table.rows)))
-    (Refused Refusal.unknown_key)
+-- 9, "no command bit"; then the row
+abbrev pub decide_bit : Table → ℕ → Option ℕ → ℕ → Decision
+decide_bit table key None ar = Err NoCommandBit
+decide_bit table key (Some bit) ar = decide_row ar (command_at key bit table.rows)
+
+-- what a key means with the highest command bit and AR, by a table: 8, a key that is not known; then the bit
+unfoldable pub decide_by : Table → ℕ → Option ℕ → ℕ → Decision
+decide_by table key bit ar = cond (is_key key table.keys) (decide_bit table key bit ar) (Err UnknownKey)
 
 -- what a key means with MODE and AR
 unfoldable pub decide : ℕ → ℕ → ℕ → Decision
-decide key mode ar = decide_by commands key (highest_command_bit mode) ar
+decide key mode ar = decide_by commands key (command_bit mode) ar
 
 -- the paper's number of each case
 abbrev pub decision_number : Decision → ℕ
-decision_number (Obey command) = Refusal.none
-decision_number (Refused number) = number
+decision_number = Refusal.number_of
 
 -- no command is obeyed
 abbrev pub no_command : ℕ
@@ -98,5 +106,5 @@ no_command = 0
 
 -- "the command that would be obeyed" (A2 of paper 02), by its number
 unfoldable pub command_of : Decision → ℕ
-command_of (Obey command) = command_number command
-command_of (Refused number) = no_command
+command_of (Ok command) = command_number command
+command_of (Err refusal) = no_command

@@ -6,21 +6,20 @@ use configuration::configuration::{cold_threshold, dcgn, dcoff, gaf, ilmd, tcgn}
 use configuration::settings::Settings;
 
 // How far the temperature lies below the threshold, 0 where none was measured.
+#[tactic(auto, unfolding(crate::specs::Compensation::dt))]
 pub fn dt(settings: Settings, temperature: u16) -> u16
     ensures value { result ≡ Spec.dt settings temperature }
     ensures range { result ≤ 1_120 }
 {
     if temperature == 0 {
-        return 0;
+        0
+    } else {
+        cold_threshold(settings).saturating_sub(temperature)
     }
-    let threshold = cold_threshold(settings);
-    if threshold < temperature {
-        return 0;
-    }
-    threshold - temperature
 }
 
 // ADCGN in 32nds: DCGN as the cycles have raised it.
+#[tactic(auto, using(crate::proofs::AgeLaws::aged_within), unfolding(crate::specs::Compensation::adcgn))]
 fn adcgn(settings: Settings, cyct: u16) -> u32
     ensures value { result ≡ Spec.adcgn settings cyct }
     ensures range { result ≤ 31 * 380_867 }
@@ -30,6 +29,7 @@ fn adcgn(settings: Settings, cyct: u16) -> u32
     dcgn(settings) as u32 * (32 + aged)
 }
 
+#[tactic(auto, unfolding(crate::specs::Compensation::rate_term))]
 fn rate_term(settings: Settings, current: u16, temperature: u16, cyct: u16) -> u64
     ensures value { result ≡ Spec.rate_term settings current temperature cyct }
     ensures range { result ≤ 65_535 * (31 * 380_867) * 34_848 }
@@ -39,6 +39,7 @@ fn rate_term(settings: Settings, current: u16, temperature: u16, cyct: u16) -> u
     current as u64 * gain * (128 + cold)
 }
 
+#[tactic(auto, unfolding(crate::specs::Compensation::offset_term))]
 fn offset_term(settings: Settings) -> u64
     ensures { result ≡ Spec.offset_term settings }
 {
@@ -46,37 +47,30 @@ fn offset_term(settings: Settings) -> u64
 }
 
 // DCMP, counts.
+#[tactic(auto, unfolding(crate::specs::Compensation::dcmp))]
 pub fn dcmp(settings: Settings, current: u16, temperature: u16, cyct: u16) -> u64
     ensures { result ≡ Spec.dcmp settings current temperature cyct }
 {
     let rate = rate_term(settings, current, temperature, cyct);
     let offset = offset_term(settings);
-    if offset <= rate {
-        return (rate - offset + 1_048_575) / 1_048_576;
-    }
-    0
+    rate.saturating_sub(offset).div_ceil(1_048_576)
 }
 
 // A capacity less its compensation, at least 0.
 pub fn compensated(capacity: u16, reduction: u64) -> u16
     ensures { result ≡ Spec.compensated capacity reduction }
 {
-    if (capacity as u64) < reduction {
-        return 0;
-    }
-    (capacity as u64 - reduction) as u16
+    (capacity as u64).saturating_sub(reduction) as u16
 }
 
 // The floored, capped quotient that every time register is.
+#[tactic(auto, unfolding(crate::specs::Compensation::minutes))]
 pub fn minutes(numerator: u32, divisor: u16) -> u16
     ensures { result ≡ Spec.minutes numerator divisor }
 {
     if divisor == 0 {
-        return 65_535;
+        65_535
+    } else {
+        (numerator / divisor as u32).min(65_535) as u16
     }
-    let quotient = numerator / divisor as u32;
-    if 65_535 < quotient {
-        return 65_535;
-    }
-    quotient as u16
 }

@@ -6,6 +6,7 @@ use crate::configuration::ilmd;
 use crate::settings::Settings;
 
 impl Settings {
+    #[tactic(auto, unfolding(crate::specs::Settings::settings_accepted))]
     pub fn accepted(self) -> bool
         ensures { result ≡ Spec.settings_accepted self }
     {

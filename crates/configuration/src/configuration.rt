@@ -1,5 +1,5 @@
 // "Configuration": each meaning of the ten bytes at 0x76 to 0x7F is a function of the settings.
-ghost use Rattle.std.specs.Prelude.{◌≡◌, max, ◌<◌, ◌≤◌, get_or};
+ghost use Rattle.std.specs.Prelude.{◌≡◌, ◌<◌, ◌≤◌, get_or};
 ghost use Rattle.configuration.specs.Configuration as Spec;
 
 use crate::settings::Settings;
@@ -29,8 +29,7 @@ fn byte(settings: Settings, at: usize) -> u8
     requires { at < 10 }
     ensures { result ≡ get_or settings.bytes at 0 }
 {
-    let bytes = settings.bytes;
-    bytes[at]
+    settings.bytes[at]
 }
 
 pub fn ilmd(settings: Settings) -> u8
@@ -52,22 +51,10 @@ pub fn edvf(settings: Settings) -> u16
     8 * (byte(settings, SEDVF) as u16 + 256)
 }
 
-fn greater(a: u16, b: u16) -> u16
-    ensures { result ≡ max a b }
-{
-    if a < b {
-        return b;
-    }
-    a
-}
-
 pub fn e1(settings: Settings) -> u16
     ensures { result ≡ Spec.e1 settings }
 {
-    greater(
-        8 * (byte(settings, SEDV1) as u16 + 256),
-        edvf(settings) + 32,
-    )
+    (8 * (byte(settings, SEDV1) as u16 + 256)).max(edvf(settings) + 32)
 }
 
 pub fn s0(settings: Settings) -> u16
@@ -77,6 +64,7 @@ pub fn s0(settings: Settings) -> u16
     2 * byte(settings, ISLC) as u16
 }
 
+// DMF and SD, a gain and an offset: each is one quotient or remainder of a byte of its own, which a function shared by two would not make shorter.
 pub fn dmf(settings: Settings) -> u8
     ensures value { result ≡ Spec.dmf settings }
     ensures range { result < 16 }
@@ -98,13 +86,15 @@ pub fn taper(settings: Settings) -> u8
 }
 
 // DCOMP as it is taken: the fixed 0x6C where PKCFG bit 1 is set.
+#[tactic(auto, unfolding(crate::specs::Configuration::dcomp_taken))]
 fn dcomp_taken(settings: Settings) -> u8
     ensures { result ≡ Spec.dcomp_taken settings }
 {
     if byte(settings, PKCFG) / 2 % 2 == 1 {
-        return 0x6C;
+        0x6C
+    } else {
+        byte(settings, DCOMP)
     }
-    byte(settings, DCOMP)
 }
 
 pub fn dcgn(settings: Settings) -> u8
@@ -149,6 +139,7 @@ pub fn cold_threshold(settings: Settings) -> u16
     4 * (273 + toff(settings) as u16)
 }
 
+#[tactic(auto, using(crate::proofs::ModeLaws::opened_mode_is))]
 pub fn opened_mode(settings: Settings) -> u8
     ensures { result ≡ Spec.opened_mode settings }
 {

@@ -5,7 +5,7 @@ ghost use Rattle.configuration.specs.Settings as Spec;
 // "The ten configuration bytes are one value".
 pub type Configuration = [u8; 10];
 
-#[derive(Clone, Copy)]
+#[derive(Clone, Copy, Debug, PartialEq, Eq)]
 pub struct Settings {
     pub bytes: Configuration,
 }

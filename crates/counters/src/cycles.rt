@@ -6,9 +6,9 @@ use grains::grains::{MOST_DRAIN, grains_of_counts, grains_of_current, saturating
 use sample::current::Current;
 
 // "CYCT stops at 65,535".
-const MOST_CYCLES: u16 = 65_535;
+const MOST_CYCLES: u64 = 65_535;
 
-#[derive(Clone, Copy)]
+#[derive(Clone, Copy, Debug, PartialEq, Eq)]
 pub struct Cycles {
     // CYCT
     pub cyct: u16,
@@ -17,17 +17,16 @@ pub struct Cycles {
 }
 
 // CYCT and further cycles, without a sum that could wrap.
+#[tactic(auto, unfolding(crate::specs::Cycles::cyct_after))]
 fn cyct_after(cyct: u16, cycles: u64) -> u16
     ensures { result ≡ Spec.cyct_after cyct cycles }
 {
-    if ((MOST_CYCLES - cyct) as u64) < cycles {
-        return MOST_CYCLES;
-    }
-    cyct + cycles as u16
+    cycles.saturating_add(cyct as u64).min(MOST_CYCLES) as u16
 }
 
 impl Cycles {
     // Opening, and FRST.
+    #[tactic(auto, unfolding(crate::specs::Cycles::no_cycles))]
     pub fn none() -> Cycles
         ensures { result ≡ Spec.no_cycles }
     {
@@ -40,20 +39,17 @@ impl Cycles {
     {
         let drain = saturating_sum(self.drain, grains_of_current(current.discharge_current()));
         let whole = grains_of_counts(lmd);
-        if drain < whole {
+        if drain < whole || lmd == 0 {
             self.drain = drain;
-            return self;
+        } else {
+            self.cyct = cyct_after(self.cyct, drain / whole);
+            self.drain = drain % whole;
         }
-        if lmd == 0 {
-            self.drain = drain;
-            return self;
-        }
-        self.cyct = cyct_after(self.cyct, drain / whole);
-        self.drain = drain % whole;
         self
     }
 
     // What 14 asks of the drain.
+    #[tactic(auto, unfolding(crate::specs::Cycles::cycles_accepted))]
     pub fn accepted(self) -> bool
         ensures { result ≡ Spec.cycles_accepted self }
     {

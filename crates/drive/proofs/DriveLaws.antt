@@ -11,7 +11,7 @@ use Rattle.gauge.specs.Answer.{answered}
 use Rattle.gauge.specs.Calls.{rest_answer, window_answer, write_answer}
 use Rattle.gauge.specs.Opening.{open_refusal, opened}
 use Rattle.gauge.specs.Fits.{Taken}
-use Rattle.gauge.specs.declared.answer.Answer.{Answer}
+use Rattle.gauge.specs.Answer.{Answer}
 use Rattle.gauge.specs.declared.state.Gauge.{Gauge}
 use Rattle.handset.specs.Calls.{open_bytes, open_number, rest_call, window_call, write_call}
 use Rattle.saved.specs.Call.{call_bytes, call_number}

@@ -5,7 +5,7 @@ use Prim.Native.Nat.{ℕ, ◌<◌}
 use lib.ListN.{get_or}
 use Rattle.form.specs.Form.{Form, newest}
 use Rattle.gauge.specs.Fits.{Taken}
-use Rattle.gauge.specs.declared.answer.Answer.{Answer}
+use Rattle.gauge.specs.Answer.{Answer}
 use Rattle.gauge.specs.declared.state.Gauge.{Gauge}
 use Rattle.history.specs.Claim.{begun}
 use Rattle.load.specs.Fields.{charge_from, counters_from, gauge_from, host_from}

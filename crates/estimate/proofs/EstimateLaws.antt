@@ -1,6 +1,6 @@
--- Each way of an estimate answers what its tests pick, with both numbers afterwards. Assumes nothing.
-use mathlib.Core.Bool.{true, false}
-use mathlib.Core.Path.{◌≡◌, sym, ap, ◌∙◌}
+-- Each way of an estimate answers what its tests pick, and what lent numbers hold afterwards. Assumes nothing.
+use mathlib.Core.Bool.{Bool, true, false, cond}
+use mathlib.Core.Path.{◌≡◌, refl, sym, ap, ◌∙◌}
 use Prim.Native.Nat.{ℕ, ◌≤◌}
 use lib.Dec.{leb}
 use lib.IntN.{ℤ}
@@ -9,9 +9,11 @@ use Rattle.gauge.specs.Accepted.{accepted}
 use Rattle.gauge.specs.declared.state.Gauge.{Gauge}
 use Rattle.gauge.proofs.AcceptedLaws.{nac_within}
 use Rattle.grains.specs.Grains.{nac}
-use Rattle.permille.specs.Table.{in_table}
+use Rattle.std.specs.Prelude.{None, Some}
+use Rattle.permille.specs.Table.{in_table, permille, permille_in}
 use Rattle.refusals.specs.Refusal as Refusal
-use Rattle.refusals.proofs.OrElseLaws.{not_rejected}
+use Rattle.refusals.specs.declared.Refusal as Refused
+use Rattle.refusals.proofs.OrElseLaws.{not_rejected, number_above}
 use Rattle.estimate.specs.Estimate.{distance_after, distance_from, estimate_after, estimate_of, estimate_refusal, least_rests}
 
 module _ (g : Gauge) (v : ℤ) where
@@ -27,32 +29,47 @@ module _ (g : Gauge) (v : ℤ) where
     rested_too_short r = simp (a, r)
 
     module _ (r : leb least_rests g.counters.rests ≡ true) where
-      pub outside : in_table v ≡ false → Refusal.outside_table ≡ estimate_refusal g v
-      unfolding estimate_refusal
-      outside t = simp (a, r, t)
+      pub outside : permille_in v ≡ None → estimate_refusal g v ≡ Refusal.outside_table
+      unfolding estimate_refusal permille_in
+      outside e = by (in_table v) refl e
+        where
+          by : (t : Bool) → in_table v ≡ t → cond t (Some (permille v)) None ≡ None → estimate_refusal g v ≡ Refusal.outside_table
+          by true p q = let z : ⊥ = cc in absurd z
+          by false p q = simp (a, r, p)
 
-      pub accepts : in_table v ≡ true → Refusal.none ≡ estimate_refusal g v
-      unfolding estimate_refusal
-      accepts t = simp (a, r, t)
+      pub within : (value : ℕ) → permille_in v ≡ Some value → (estimate_refusal g v ≡ Refusal.none) × (value ≡ permille v)
+      unfolding estimate_refusal permille_in
+      within value e = by (in_table v) refl e
+        where
+          by : (t : Bool) → in_table v ≡ t → cond t (Some (permille v)) None ≡ Some value → (estimate_refusal g v ≡ Refusal.none) × (value ≡ permille v)
+          by true p q = (simp (a, r, p), cc)
+          by false p q = let z : ⊥ = cc in absurd z
 
   -- ---- what is handed out
 
-  module _ (before : ℕ) (from : ℤ) where
-    abbrev Answers : ℕ → ℕ → ℤ → Type 0
-    Answers number estimate distance = (number ≡ estimate_refusal g v) × ((estimate ≡ estimate_after g v before) × (distance ≡ distance_after g v from))
+  module _ (refusal : Refused.Refusal) (e : Refusal.number refusal ≡ estimate_refusal g v) where
+    above : estimate_refusal g v ≡ Refusal.none → ⊥
+    above z = number_above refusal (e ∙ z)
 
-    pub refused : {number : ℕ} → number ≡ estimate_refusal g v → (number ≡ Refusal.none → ⊥) → Answers number before from
-    unfolding estimate_after distance_after
-    refused {number} e n = let f = ne_eqb (estimate_refusal g v) 0 (λ z. n (e ∙ z)) in (e, (simp f, simp f))
+    pub counts_stand : (before : ℕ) → before ≡ estimate_after g v before
+    unfolding estimate_after
+    counts_stand before = simp (ne_eqb (estimate_refusal g v) 0 above)
 
-    pub handed_out : {number estimate : ℕ} {distance : ℤ} → number ≡ estimate_refusal g v → number ≡ Refusal.none → estimate ≡ estimate_of g v
-        → distance ≡ distance_from (nac g.charge.held) estimate → Answers Refusal.none estimate distance
-    unfolding estimate_after distance_after
-    handed_out e z p q =
-        let n : estimate_refusal g v ≡ Refusal.none = sym e ∙ z in
-        (sym n, (simp n p, simp n (q ∙ ap (distance_from (nac g.charge.held)) p)))
+    pub distance_stands : (before : ℤ) → before ≡ distance_after g v before
+    unfolding distance_after
+    distance_stands before = simp (ne_eqb (estimate_refusal g v) 0 above)
 
-  -- the NAC of a gauge that is not refused
-  pub nac_low : {number : ℕ} → number ≡ estimate_refusal g v → number ≡ Refusal.none → nac g.charge.held ≤ g.charge.lmd
-  unfolding estimate_refusal
-  nac_low e z = nac_within g (not_rejected (accepted g) _ (sym e ∙ z)).0
+  module _ (z : Refusal.none ≡ estimate_refusal g v) where
+    pub counts_handed : {estimate : ℕ} (before : ℕ) → estimate ≡ estimate_of g v → estimate ≡ estimate_after g v before
+    unfolding estimate_after
+    counts_handed before p = simp (sym z) p
+
+    pub distance_handed : {estimate : ℕ} {distance : ℤ} (before : ℤ) → estimate ≡ estimate_of g v
+        → distance ≡ distance_from (nac g.charge.held) estimate → distance ≡ distance_after g v before
+    unfolding distance_after
+    distance_handed before p q = simp (sym z) (q ∙ ap (distance_from (nac g.charge.held)) p)
+
+    -- the NAC of a gauge that is not refused
+    pub nac_low : nac g.charge.held ≤ g.charge.lmd
+    unfolding estimate_refusal
+    nac_low = nac_within g (not_rejected (accepted g) _ (sym z)).0

@@ -1,11 +1,11 @@
 -- A4 of paper 02, "Charge from a rested cell", on the bench pack: each row worked out by hand from the papers. Definitions only; assumes nothing.
-use Rattle.std.specs.Prelude.{true, false, ◌≡◌, ℕ, ℤ, pos, negsuc}
+use Rattle.std.specs.Prelude.{Some, None, true, false, ◌≡◌, ℕ, ℤ, pos, negsuc}
 use Rattle.counters.specs.Counters.{counters_rested}
 use Rattle.counters.specs.Cycles.{no_cycles}
 use Rattle.estimate.specs.Estimate.{distance_after, estimate_after, estimate_refusal}
 use Rattle.gauge.specs.Calls.{rest_answer, write_answer}
 use Rattle.gauge.specs.declared.state.Gauge.{Gauge}
-use Rattle.permille.specs.Table.{in_table, permille}
+use Rattle.permille.specs.Table.{in_table, permille, permille_in}
 use Rattle.registers.specs.Values.{nac}
 use Rattle.examples.specs.Bench.{after_sample, opened_pack, with_ar}
 use Rattle.examples.specs.PreviewRows.{rejected}
@@ -33,6 +33,10 @@ abbrev distance_at : ℤ → Gauge → ℤ
 distance_at v g = distance_after g v (negsuc 8)
 
 pub record EstimateRows : Type 0 where
+  -- a voltage in the table has a permille, and others have none
+  pub in_3600 : permille_in (pos 3_600) ≡ Some 140
+  pub in_2999 : permille_in (pos 2_999) ≡ None
+  pub in_4201 : permille_in (pos 4_201) ≡ None
   -- the points of the rule
   pub at_3000 : permille (pos 3_000) ≡ 0
   pub at_3400 : permille (pos 3_400) ≡ 40

@@ -2,7 +2,7 @@
 use Rattle.std.specs.Prelude.{true, false, ◌≡◌, pos, negsuc}
 use Rattle.command.specs.Command.{decide}
 use Rattle.command.specs.declared.command.Command.TheVariants.{Setting}
-use Rattle.command.specs.declared.command.Decision.TheVariants.{Obey}
+use Rattle.std.specs.Prelude.{Ok}
 use Rattle.command.specs.declared.command.Setting.TheVariants.{Wrtnac}
 use Rattle.compensation.specs.Compensation.{dcmp}
 use Rattle.configuration.specs.Settings.{opened_settings}
@@ -48,7 +48,7 @@ pub record Examples : Type 0 where
   pub v_3000 : (after_sample line_two (negsuc 2_999) (pos 3_000) (pos 1_192)).flags.edv1 ≡ true
   pub v_3001 : (after_sample line_two (negsuc 2_999) (pos 3_001) (pos 1_192)).flags.edv1 ≡ false
   -- "MODE 0x35 with 0xA9 is WRTNAC"
-  pub mode_35 : decide 0xA9 0x35 0 ≡ Obey (Setting Wrtnac)
+  pub mode_35 : decide 0xA9 0x35 0 ≡ Ok (Setting Wrtnac)
   -- the bench program's lines: NAC, LMD, RSOC and FLAGS
   pub nac_1 : nac line_one ≡ 0
   pub lmd_1 : line_one.charge.lmd ≡ 1_024

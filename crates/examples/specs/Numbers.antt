@@ -1,12 +1,21 @@
 -- "The fourteen numbers" of paper 01: the example of each row of its table, 14 excepted, which the saved form's own contract tests. Definitions
 -- only; assumes nothing.
-use Rattle.std.specs.Prelude.{◌≡◌, pos, negsuc, replicate, set}
+use Rattle.std.specs.Prelude.{◌≡◌, Some, None, [], ◌∷◌, map, pos, negsuc, replicate, set}
 use Rattle.configuration.specs.BenchPack.{bench_pack}
 use Rattle.gauge.specs.Calls.{rest_refusal, sample_refusal, write_refusal}
 use Rattle.gauge.specs.Opening.{open_refusal}
+use Rattle.refusals.specs.Refusal.{number}
+use Rattle.refusals.specs.declared.Refusal.TheVariants.{ConfigurationLength, IlmdZero, CurrentRange, VoltageRange, TemperatureRange, RestLength, NotWritable}
+use Rattle.refusals.specs.declared.Refusal.TheVariants.{UnknownKey, NoCommandBit, NotCarried, WrtlmdZero, RegisterRange, BufferLength, Rejected, NotRested, OutsideTable}
 use Rattle.registers.specs.Reading.{place_refusal}
+use Rattle.sample.specs.Range.{read_between}
 
 pub record Numbers : Type 0 where
+  -- the refusals in the order of the table, and those of paper 02 behind them
+  pub first_eight : map number (ConfigurationLength ∷ IlmdZero ∷ CurrentRange ∷ VoltageRange ∷ TemperatureRange ∷ RestLength ∷ NotWritable ∷ UnknownKey ∷ [])
+      ≡ 1 ∷ 2 ∷ 3 ∷ 4 ∷ 5 ∷ 6 ∷ 7 ∷ 8 ∷ []
+  pub last_eight : map number (NoCommandBit ∷ NotCarried ∷ WrtlmdZero ∷ RegisterRange ∷ BufferLength ∷ Rejected ∷ NotRested ∷ OutsideTable ∷ [])
+      ≡ 9 ∷ 10 ∷ 11 ∷ 12 ∷ 13 ∷ 14 ∷ 15 ∷ 16 ∷ []
   -- "9 bytes"
   pub number_1 : open_refusal (replicate 9 1) ≡ 1
   -- "first byte 0x00"
@@ -19,6 +28,10 @@ pub record Numbers : Type 0 where
   -- "2,599"; from 2,600 to 4,500 is in range
   pub number_4 : sample_refusal (pos 0) (pos 2_599) (pos 1_192) ≡ 4
   pub least_voltage_lem : sample_refusal (pos 0) (pos 2_600) (pos 1_192) ≡ 0
+  pub below_least : read_between 2_600 4_500 (pos 2_599) ≡ None
+  pub at_least : read_between 2_600 4_500 (pos 2_600) ≡ Some 2_600
+  pub at_most : read_between 2_600 4_500 (pos 4_500) ≡ Some 4_500
+  pub above_most : read_between 2_600 4_500 (pos 4_501) ≡ None
   pub most_voltage_lem : sample_refusal (pos 0) (pos 4_500) (pos 1_192) ≡ 0
   -- "1,373"; from 1,012 to 1,372 is in range
   pub number_5 : sample_refusal (pos 0) (pos 3_600) (pos 1_373) ≡ 5

@@ -1,8 +1,8 @@
 -- Rules of paper 01 that none of its own examples pins, each row worked out by hand from the paper. Definitions only; assumes nothing.
 use Rattle.std.specs.Prelude.{true, false, ◌≡◌, ℕ, pos, set}
-use Rattle.command.specs.Command.{decide}
+use Rattle.command.specs.Command.{decide, decision_number}
 use Rattle.command.specs.declared.command.Command.TheVariants.{Setting, Reset}
-use Rattle.command.specs.declared.command.Decision.TheVariants.{Obey, Refused}
+use Rattle.std.specs.Prelude.{Ok}
 use Rattle.command.specs.declared.command.Reset.TheVariants.{Prst, Frst}
 use Rattle.command.specs.declared.command.Setting.TheVariants.{Done, Wrtlmd}
 use Rattle.compensation.specs.Compensation.{dcmp, dt, minutes}
@@ -105,12 +105,12 @@ pub record Rows : Type 0 where
   pub minutes_65536 : minutes 131_072 2 ≡ 65_535
   pub minutes_65534 : minutes 131_069 2 ≡ 65_534
   -- keys: 0x56 obeys WRTLMD with bit 0 alone; 0xA9 obeys the highest of 4, 3 and 1
-  pub key_56 : decide 0x56 0x01 1 ≡ Obey (Setting Wrtlmd)
-  pub key_56_higher : decide 0x56 0x03 1 ≡ Refused 10
-  pub key_56_none : decide 0x56 0x44 1 ≡ Refused 9
-  pub key_done : decide 0xA9 0x1B 0 ≡ Obey (Setting Done)
-  pub key_prst : decide 0xA9 0x0B 0 ≡ Obey (Reset Prst)
-  pub key_frst : decide 0xA9 0x03 0 ≡ Obey (Reset Frst)
+  pub key_56 : decide 0x56 0x01 1 ≡ Ok (Setting Wrtlmd)
+  pub key_56_higher : decision_number (decide 0x56 0x03 1) ≡ 10
+  pub key_56_none : decision_number (decide 0x56 0x44 1) ≡ 9
+  pub key_done : decide 0xA9 0x1B 0 ≡ Ok (Setting Done)
+  pub key_prst : decide 0xA9 0x0B 0 ≡ Ok (Reset Prst)
+  pub key_frst : decide 0xA9 0x03 0 ≡ Ok (Reset Frst)
   -- MODE's bits: PKCFG bit 7 and bits 6 and 2 as opened; the command bits 5, 4, 3, 1, 0 cleared; INIT, bit 2, cleared
   pub mode_opened : opened_mode (opened_settings (set bench_pack 6 0xFF)) ≡ 0xC4
   pub mode_opened_0 : opened_mode (opened_settings bench_pack) ≡ 0x44

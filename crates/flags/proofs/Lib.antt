@@ -1,2 +1,1 @@
 pub mod FlagsByteLaws
-pub mod FlagsLaws

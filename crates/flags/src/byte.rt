@@ -9,21 +9,21 @@ fn flag_at(weight: u8, flag: bool) -> u8
     ensures value { result ≡ Spec.flag_at weight flag }
     ensures range { result ≤ weight }
 {
-    if flag {
-        return weight;
-    }
-    0
+    if flag { weight } else { 0 }
 }
 
+#[tactic(auto, unfolding(crate::specs::Byte::flags_byte))]
 pub fn flags_byte(chgs: bool, vdq: bool, flags: Flags) -> u8
     ensures { result ≡ Spec.flags_byte chgs vdq flags }
 {
-    let ci = flag_at(16, flags.ci);
-    let edv1 = flag_at(2, flags.edv1);
-    let edvf = flag_at(1, flags.edvf);
-    flag_at(128, chgs) + ci + flag_at(4, vdq) + edv1 + edvf
+    flag_at(128, chgs)
+        + flag_at(16, flags.ci)
+        + flag_at(4, vdq)
+        + flag_at(2, flags.edv1)
+        + flag_at(1, flags.edvf)
 }
 
+#[tactic(auto, unfolding(crate::specs::Byte::flags_of))]
 pub fn flags_of(byte: u8) -> Flags
     ensures { result ≡ Spec.flags_of byte }
 {
@@ -41,6 +41,7 @@ pub fn vdq_of(byte: u8) -> bool
 }
 
 // "CHGS exactly if c > 0, other flag bits 0".
+#[tactic(auto, unfolding(crate::specs::Byte::flags_fit))]
 pub fn flags_fit(byte: u8, charging: bool) -> bool
     ensures { result ≡ Spec.flags_fit byte charging }
 {
@@ -51,7 +52,8 @@ pub fn flags_fit(byte: u8, charging: bool) -> bool
         return false;
     }
     if charging {
-        return byte / 128 == 1;
+        byte / 128 == 1
+    } else {
+        byte / 128 == 0
     }
-    byte / 128 == 0
 }

@@ -4,7 +4,7 @@ ghost use Rattle.flags.specs.Flags as Spec;
 
 use command::command::{Command, Reset, Setting};
 
-#[derive(Clone, Copy)]
+#[derive(Clone, Copy, Debug, PartialEq, Eq)]
 pub struct Flags {
     pub ci: bool,
     pub edv1: bool,
@@ -24,18 +24,19 @@ impl Flags {
     }
 
     // Charging clears the end-of-discharge flags.
+    #[tactic(auto, unfolding(crate::specs::Flags::cleared_if))]
     pub fn cleared_if(mut self, charging: bool) -> Flags
         ensures { result ≡ Spec.cleared_if charging self }
     {
         if charging {
             self.edv1 = false;
             self.edvf = false;
-            return self;
         }
         self
     }
 
     // An EDVF window.
+    #[tactic(auto, unfolding(crate::specs::Flags::at_edvf))]
     pub fn at_edvf(mut self) -> Flags
         ensures { result ≡ Spec.at_edvf self }
     {
@@ -45,6 +46,7 @@ impl Flags {
     }
 
     // The voltage at or below E1.
+    #[tactic(auto, unfolding(crate::specs::Flags::at_edv1))]
     pub fn at_edv1(mut self) -> Flags
         ensures { result ≡ Spec.at_edv1 self }
     {
@@ -53,6 +55,7 @@ impl Flags {
     }
 
     // The voltage at or below E1, and the run qualifies.
+    #[tactic(auto, unfolding(crate::specs::Flags::at_taught))]
     pub fn at_taught(mut self) -> Flags
         ensures { result ≡ Spec.at_taught self }
     {
@@ -61,19 +64,16 @@ impl Flags {
         self
     }
 
+    #[tactic(auto, unfolding(crate::specs::Flags::flags_obeyed))]
     pub fn obeyed(self, command: Command) -> Flags
         ensures { result ≡ Spec.flags_obeyed command self }
     {
         match command {
-            Command::Setting(setting) => match setting {
-                Setting::Wrtnac => self,
-                Setting::Done => Flags::opened(self.ci),
-                Setting::Wrtlmd => self,
-            },
-            Command::Reset(reset) => match reset {
-                Reset::Prst => Flags::opened(self.ci),
-                Reset::Frst => Flags::opened(true),
-            },
+            Command::Setting(Setting::Wrtnac) => self,
+            Command::Setting(Setting::Done) => Flags::opened(self.ci),
+            Command::Setting(Setting::Wrtlmd) => self,
+            Command::Reset(Reset::Prst) => Flags::opened(self.ci),
+            Command::Reset(Reset::Frst) => Flags::opened(true),
         }
     }
 }

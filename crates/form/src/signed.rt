@@ -4,22 +4,22 @@ ghost use Rattle.form.specs.Signed as Spec;
 
 use sample::current::Current;
 
-const PAIRS: u32 = 65_536;
+#[tactic(auto, unfolding(crate::specs::Signed::signed_pair))]
+pub fn signed_pair(current: Current) -> u16
+    ensures { result ≡ Spec.signed_pair current }
+{
+    if current.charging {
+        current.magnitude
+    } else {
+        current.magnitude.wrapping_neg()
+    }
+}
 
 // The first pair that is below 0.
 const FIRST_NEGATIVE: u16 = 32_768;
 
-pub fn signed_pair(current: Current) -> u16
-    ensures { result ≡ Spec.signed_pair current }
-{
-    let magnitude = current.magnitude;
-    if current.charging {
-        return magnitude;
-    }
-    ((PAIRS - magnitude as u32) % PAIRS) as u16
-}
-
-// By direction and magnitude.
+// By direction and magnitude. By two ways, of which the compiler keeps the one that is taken.
+#[tactic(auto, unfolding(crate::specs::Signed::current_of))]
 pub fn current_of(pair: u16) -> Current
     ensures { result ≡ Spec.current_of pair }
 {
@@ -31,6 +31,6 @@ pub fn current_of(pair: u16) -> Current
     }
     Current {
         charging: false,
-        magnitude: (PAIRS - pair as u32) as u16,
+        magnitude: pair.wrapping_neg(),
     }
 }

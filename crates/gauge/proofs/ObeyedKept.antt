@@ -10,8 +10,8 @@ use Rattle.charge.proofs.ChargeKept.{charge_taken, command_lmd, command_sound}
 use Rattle.command.specs.Command.{decide}
 use Rattle.command.specs.declared.command.Command.{Command}
 use Rattle.command.specs.declared.command.Command.TheVariants.{Setting}
-use Rattle.command.specs.declared.command.Decision.{Decision}
-use Rattle.command.specs.declared.command.Decision.TheVariants.{Obey, Refused}
+use Rattle.command.specs.Command.{Decision}
+use Rattle.std.specs.Prelude.{Ok, Err}
 use Rattle.command.specs.declared.command.Setting.TheVariants.{Wrtlmd}
 use Rattle.command.proofs.DecisionLaws.{wrtlmd_above}
 use Rattle.configuration.specs.Configuration.{dmf, ilmd, s0}
@@ -50,10 +50,10 @@ module _ (g : Gauge) (s : Sound g) where
         counters = Counters.obeyed_accepted g.counters s.counters command;
       }
 
-  decided_sound : (d : Decision) → (d ≡ Obey (Setting Wrtlmd) → 0 < g.host.ar) → Sound (decided d g)
+  decided_sound : (d : Decision) → (d ≡ Ok (Setting Wrtlmd) → 0 < g.host.ar) → Sound (decided d g)
   unfolding decided
-  decided_sound (Obey command) above = obeyed_sound command (λ e. above (ap Obey e))
-  decided_sound (Refused number) above = s
+  decided_sound (Ok command) above = obeyed_sound command (λ e. above (ap Ok e))
+  decided_sound (Err number) above = s
 
 module _ (g : Gauge) (k : Taken g) where
   obeyed_taken : (command : Command) → (command ≡ Setting Wrtlmd → 0 < g.host.ar) → Taken (obeyed command g)
@@ -67,10 +67,10 @@ module _ (g : Gauge) (k : Taken g) where
       gauge_taken (obeyed command g) s f.settings y.fits (obeyed_fits command c g.host f.host)
       (Counters.obeyed_fits g.counters f.counters command)
 
-  pub decided_taken : (d : Decision) → (d ≡ Obey (Setting Wrtlmd) → 0 < g.host.ar) → Taken (decided d g)
+  pub decided_taken : (d : Decision) → (d ≡ Ok (Setting Wrtlmd) → 0 < g.host.ar) → Taken (decided d g)
   unfolding decided
-  decided_taken (Obey command) above = obeyed_taken command (λ e. above (ap Obey e))
-  decided_taken (Refused number) above = k
+  decided_taken (Ok command) above = obeyed_taken command (λ e. above (ap Ok e))
+  decided_taken (Err number) above = k
 
 -- ---- a key at CTRL
 

@@ -1,28 +1,24 @@
--- Each way of opening answers what its tests pick. Assumes nothing.
+-- The number of each way of opening. Assumes nothing.
 use mathlib.Core.Bool.{true, false}
 use mathlib.Core.List.{List}
-use mathlib.Core.Path.{◌≡◌, ap}
+use mathlib.Core.Path.{◌≡◌}
 use Prim.Native.Nat.{ℕ}
 use lib.Dec.{eqb}
-use lib.ListN.{length, replicate}
+use lib.ListN.{length}
 use Rattle.configuration.specs.Configuration.{ilmd}
 use Rattle.configuration.specs.Settings.{opened_settings}
 use Rattle.refusals.specs.Refusal as Refusal
-use Rattle.gauge.specs.Opening.{open_answer, open_refusal, opened}
-use Rattle.gauge.specs.declared.state.Gauge.{Gauge}
-use Rattle.gauge.proofs.CallLaws.{answer}
+use Rattle.gauge.specs.Opening.{open_refusal}
 
 module _ (b : List ℕ) where
-  pub open_length : {g : Gauge} → eqb (length b) 10 ≡ false → g ≡ opened (replicate 10 0)
-      → answer Refusal.configuration_length g ≡ open_answer b
-  unfolding open_answer open_refusal
-  open_length p e = simp p (ap (answer Refusal.configuration_length) e)
+  pub open_length : eqb (length b) 10 ≡ false → open_refusal b ≡ Refusal.configuration_length
+  unfolding open_refusal
+  open_length p = simp p
 
-  pub open_capacity : {g : Gauge} → eqb (length b) 10 ≡ true → eqb (ilmd (opened_settings b)) 0 ≡ true → g ≡ opened (replicate 10 0)
-      → answer Refusal.ilmd_zero g ≡ open_answer b
-  unfolding open_answer open_refusal
-  open_capacity p q e = simp (p, q) (ap (answer Refusal.ilmd_zero) e)
+  pub open_capacity : eqb (length b) 10 ≡ true → eqb (ilmd (opened_settings b)) 0 ≡ true → open_refusal b ≡ Refusal.ilmd_zero
+  unfolding open_refusal
+  open_capacity p q = simp (p, q)
 
-  pub open_done : {g : Gauge} → eqb (length b) 10 ≡ true → eqb (ilmd (opened_settings b)) 0 ≡ false → g ≡ opened b → answer 0 g ≡ open_answer b
-  unfolding open_answer open_refusal
-  open_done p q e = simp (p, q) (ap (answer 0) e)
+  pub open_done : eqb (length b) 10 ≡ true → eqb (ilmd (opened_settings b)) 0 ≡ false → open_refusal b ≡ Refusal.none
+  unfolding open_refusal
+  open_done p q = simp (p, q)

@@ -2,8 +2,12 @@
 use Rattle.std.specs.Prelude.{cond, ℕ, eqb}
 use Rattle.refusals.specs.Refusal as Refusal
 use Rattle.gauge.specs.Accepted.{accepted}
-use Rattle.gauge.specs.declared.answer.Answer.{Answer}
 use Rattle.gauge.specs.declared.state.Gauge.{Gauge}
+
+-- a number, 0 or that of a refusal, and the gauge that follows
+pub record Answer : Type 0 where
+  pub number : ℕ
+  pub gauge : Gauge
 
 -- the number alone and the gauge as it was, or 0 and the gauge that follows
 abbrev pub answered : ℕ → Gauge → Gauge → Answer

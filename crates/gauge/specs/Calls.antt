@@ -9,11 +9,10 @@ use Rattle.refusals.specs.Refusal.{or_else}
 use Rattle.sample.specs.Current.{counted}
 use Rattle.sample.specs.Limits.{rest_in_range}
 use Rattle.sample.specs.Range.{current, current_refusal, temperature, temperature_refusal, voltage, voltage_refusal}
-use Rattle.gauge.specs.Answer.{answered, unless_rejected}
+use Rattle.gauge.specs.Answer.{Answer, answered, unless_rejected}
 use Rattle.gauge.specs.Obey.{decided}
 use Rattle.gauge.specs.Rest.{rest}
 use Rattle.gauge.specs.Window.{window}
-use Rattle.gauge.specs.declared.answer.Answer.{Answer}
 use Rattle.gauge.specs.declared.state.Gauge.{Gauge}
 
 -- ---- a window: 14, 3, 4, 5

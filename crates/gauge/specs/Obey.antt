@@ -1,8 +1,8 @@
 -- "Opening and host bytes" of paper 01: what a command makes of each part of the gauge. Definitions only; assumes nothing.
 use Rattle.charge.specs.Obeyed.{charge_obeyed}
 use Rattle.command.specs.declared.command.Command.{Command}
-use Rattle.command.specs.declared.command.Decision.{Decision}
-use Rattle.command.specs.declared.command.Decision.TheVariants.{Obey, Refused}
+use Rattle.command.specs.Command.{Decision}
+use Rattle.std.specs.Prelude.{Ok, Err}
 use Rattle.configuration.specs.Terms.{terms_of}
 use Rattle.counters.specs.Counters.{counters_obeyed}
 use Rattle.flags.specs.Flags.{flags_obeyed}
@@ -25,5 +25,5 @@ obeyed command g =
 
 -- a refused key leaves the gauge
 unfoldable pub decided : Decision → Gauge → Gauge
-decided (Obey command) g = obeyed command g
-decided (Refused number) g = g
+decided (Ok command) g = obeyed command g
+decided (Err refusal) g = g

@@ -10,8 +10,7 @@ use Rattle.host.specs.Host.{opened_host}
 use Rattle.refusals.specs.Refusal as Refusal
 use Rattle.sample.specs.Sample.{no_sample}
 use Rattle.standby.specs.Standby.{opened_standby}
-use Rattle.gauge.specs.Answer.{answered}
-use Rattle.gauge.specs.declared.answer.Answer.{Answer}
+use Rattle.gauge.specs.Answer.{Answer, answered}
 use Rattle.gauge.specs.declared.state.Gauge.{Gauge}
 
 -- "LMD = design capacity, h, DCR, c, IAV, AR, VOLT, TEMP 0 .. flags only CI", MODE as opened; SI "opening at 16 × S0" (A1 of paper 02); nothing

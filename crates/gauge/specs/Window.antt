@@ -1,5 +1,5 @@
 -- "A window" of paper 01: its five steps, from one gauge to the next. What it reaches is decided from the charge. Definitions only; assumes nothing.
-use Rattle.std.specs.Prelude.{ℕ}
+use Rattle.std.specs.Prelude.{ℕ, ℤ}
 use Rattle.configuration.specs.Terms.{terms_of}
 use Rattle.counters.specs.Counters.{counters_moved}
 use Rattle.flags.specs.Flags.{cleared_if}
@@ -8,8 +8,14 @@ use Rattle.reached.specs.ChargeAfter.{charge_after, reached_in}
 use Rattle.reached.specs.Reached.{flags_ended}
 use Rattle.sample.specs.Current.{discharge_current}
 use Rattle.standby.specs.Standby.{averaged}
+use Rattle.sample.specs.Range.{current, temperature, voltage}
 use Rattle.sample.specs.declared.current.Current.{Current}
+use Rattle.sample.specs.declared.sample.Sample.{Sample}
 use Rattle.gauge.specs.declared.state.Gauge.{Gauge}
+
+-- the numbers of a window as handed in
+abbrev pub measured : ℤ → ℤ → ℤ → Sample
+measured a v t = record { current = current a; voltage = voltage v; temperature = temperature t }
 
 unfoldable pub window : Current → ℕ → ℕ → Gauge → Gauge
 window c v t g =

@@ -1,17 +1,15 @@
 // The calls on a gauge value: a window, a rest and a host write. 14 is tested first, then the refusals in the paper's order.
 ghost use Rattle.std.specs.Prelude.{◌≡◌};
 ghost use Rattle.gauge.specs.Calls as Spec;
+ghost use Rattle.refusals.specs.Refusal.{Answers};
 
-use crate::answer::Answer;
 use crate::state::Gauge;
-use command::command::{Decision, decide};
+use crate::window::measured;
+use command::command::decide;
 use configuration::configuration::dmf;
-use refusals::{
-    CURRENT_RANGE, NONE, NOT_WRITABLE, REJECTED, REST_LENGTH, TEMPERATURE_RANGE, VOLTAGE_RANGE,
-};
-use sample::range::{
-    current, current_in_range, temperature, temperature_in_range, voltage, voltage_in_range,
-};
+use refusals::Refusal;
+use sample::range::temperature;
+use sample::sample::Sample;
 
 // "A rest may now last 506,250 windows, thirty days" (A6 of paper 02).
 pub const LONGEST_REST: u32 = 506_250;
@@ -24,124 +22,57 @@ pub const LAST_WRITABLE: u32 = 0x03;
 
 impl Gauge {
     // A window: current, voltage and temperature as handed in.
-    pub fn window(self, a: i32, v: i32, t: i32) -> Answer
-        ensures { result ≡ Spec.window_answer self a v t }
+    pub fn window(self, a: i32, v: i32, t: i32) -> Result<Gauge, Refusal>
+        ensures { Answers result (Spec.window_answer self a v t).number (Spec.window_answer self a v t).gauge }
     {
-        let gauge = self;
-        if !gauge.accepted() {
-            return Answer {
-                number: REJECTED,
-                gauge,
-            };
-        }
-        if !current_in_range(a) {
-            return Answer {
-                number: CURRENT_RANGE,
-                gauge,
-            };
-        }
-        if !voltage_in_range(v) {
-            return Answer {
-                number: VOLTAGE_RANGE,
-                gauge,
-            };
-        }
-        if !temperature_in_range(t) {
-            return Answer {
-                number: TEMPERATURE_RANGE,
-                gauge,
-            };
-        }
-        let settings = gauge.settings;
-        let counted = current(a).counted(dmf(settings));
-        let stepped = gauge.stepped(counted, voltage(v), temperature(t));
-        Answer {
-            number: NONE,
-            gauge: stepped,
-        }
+        self.tested()?;
+        let measured = measured(a, v, t)?;
+        let counted = measured.current.counted(dmf(self.settings));
+        let sample = Sample {
+            current: counted,
+            ..measured
+        };
+        let stepped = self.stepped(sample);
+        Ok(stepped)
     }
 
     // A rest of a number of windows.
-    pub fn rest(self, windows: u32, t: i32) -> Answer
-        ensures { result ≡ Spec.rest_answer self windows t }
+    pub fn rest(self, windows: u32, t: i32) -> Result<Gauge, Refusal>
+        ensures { Answers result (Spec.rest_answer self windows t).number (Spec.rest_answer self windows t).gauge }
     {
-        let gauge = self;
-        if !gauge.accepted() {
-            return Answer {
-                number: REJECTED,
-                gauge,
-            };
-        }
+        self.tested()?;
         if windows == 0 {
-            return Answer {
-                number: REST_LENGTH,
-                gauge,
-            };
+            return Err(Refusal::RestLength);
         }
         if LONGEST_REST < windows {
-            return Answer {
-                number: REST_LENGTH,
-                gauge,
-            };
+            return Err(Refusal::RestLength);
         }
-        if !temperature_in_range(t) {
-            return Answer {
-                number: TEMPERATURE_RANGE,
-                gauge,
-            };
-        }
-        let rested = gauge.rested(windows, temperature(t));
-        Answer {
-            number: NONE,
-            gauge: rested,
-        }
+        let temperature = temperature(t)?;
+        let rested = self.rested(windows, temperature);
+        Ok(rested)
     }
 
     // A host write of one byte.
-    pub fn write(self, address: u32, value: u8) -> Answer
-        ensures { result ≡ Spec.write_answer self address value }
+    pub fn write(self, address: u32, value: u8) -> Result<Gauge, Refusal>
+        ensures { Answers result (Spec.write_answer self address value).number (Spec.write_answer self address value).gauge }
     {
-        let mut gauge = self;
-        if !gauge.accepted() {
-            return Answer {
-                number: REJECTED,
-                gauge,
-            };
-        }
+        self.tested()?;
         if LAST_WRITABLE < address {
-            return Answer {
-                number: NOT_WRITABLE,
-                gauge,
-            };
+            return Err(Refusal::NotWritable);
         }
         if address == CTRL {
-            return gauge.keyed(value);
+            return self.keyed(value);
         }
-        let host = gauge.host.stored(address, value);
-        gauge.host = host;
-        Answer {
-            number: NONE,
-            gauge,
-        }
+        let mut gauge = self;
+        gauge.host = gauge.host.stored(address, value);
+        Ok(gauge)
     }
 
     // A key at CTRL.
-    fn keyed(self, key: u8) -> Answer
-        ensures { result ≡ Spec.key_answer self key }
+    fn keyed(self, key: u8) -> Result<Gauge, Refusal>
+        ensures { Answers result (Spec.key_answer self key).number (Spec.key_answer self key).gauge }
     {
-        let decision = decide(key, self.host.mode, self.host.ar);
-        match decision {
-            Decision::Obey(command) => {
-                let gauge = self.obeyed(command);
-                Answer {
-                    number: NONE,
-                    gauge,
-                }
-            }
-            Decision::Refused(number) => {
-                let gauge = self;
-                Answer { number, gauge }
-            }
-        }
+        let command = decide(key, self.host.mode, self.host.ar)?;
+        Ok(self.obeyed(command))
     }
 }

@@ -2,10 +2,9 @@
 #![tactic(auto)]
 
 pub mod accepted;
-pub mod answer;
 pub mod calls;
 mod obey;
 pub mod opening;
 mod rest;
 pub mod state;
-mod window;
+pub mod window;

@@ -7,22 +7,19 @@ use command::command::Command;
 use standby::standby::standby_obeyed;
 
 impl Gauge {
-    pub(crate) fn obeyed(mut self, command: Command) -> Gauge
+    #[tactic(auto, unfolding(crate::specs::Obey::obeyed))]
+    pub(crate) fn obeyed(self, command: Command) -> Gauge
         ensures { result ≡ Spec.obeyed command self }
     {
         let settings = self.settings;
-        let charge = self.charge.obeyed(command, settings, self.host.ar);
-        let sample = self.sample.obeyed(command);
-        let standby = standby_obeyed(command, settings, self.standby);
-        let flags = self.flags.obeyed(command);
-        let host = self.host.obeyed(command, settings);
-        let counters = self.counters.obeyed(command);
-        self.charge = charge;
-        self.sample = sample;
-        self.standby = standby;
-        self.flags = flags;
-        self.host = host;
-        self.counters = counters;
-        self
+        Gauge {
+            charge: self.charge.obeyed(command, settings, self.host.ar),
+            sample: self.sample.obeyed(command),
+            standby: standby_obeyed(command, settings, self.standby),
+            flags: self.flags.obeyed(command),
+            host: self.host.obeyed(command, settings),
+            counters: self.counters.obeyed(command),
+            ..self
+        }
     }
 }

@@ -1,8 +1,8 @@
 // "Opening".
 ghost use Rattle.std.specs.Prelude.{◌≡◌};
 ghost use Rattle.gauge.specs.Opening as Spec;
+ghost use Rattle.refusals.specs.Refusal.{Answers};
 
-use crate::answer::Answer;
 use crate::state::Gauge;
 use charge::charge::Charge;
 use configuration::configuration::ilmd;
@@ -11,7 +11,7 @@ use counters::counters::Counters;
 use flags::flags::Flags;
 use host::host::Host;
 use numbers::little::ten_at;
-use refusals::{CONFIGURATION_LENGTH, ILMD_ZERO, NONE};
+use refusals::Refusal;
 use sample::sample::Sample;
 use standby::standby::opened_standby;
 
@@ -37,27 +37,15 @@ fn opened(configuration: Configuration) -> Gauge
 }
 
 // Opening from bytes of any length: 1, 2, or the opened gauge.
-pub fn open(bytes: &[u8]) -> Answer
-    ensures { result ≡ Spec.open_answer bytes.now }
+pub fn open(bytes: &[u8]) -> Result<Gauge, Refusal>
+    ensures { Answers result (Spec.open_refusal bytes.now) (Spec.opened bytes.now) }
 {
     if bytes.len() != 10 {
-        let gauge = opened([0u8; 10]);
-        return Answer {
-            number: CONFIGURATION_LENGTH,
-            gauge,
-        };
+        return Err(Refusal::ConfigurationLength);
     }
     let configuration = ten_at(bytes, 0);
     if ilmd(Settings::opened(configuration)) == 0 {
-        let gauge = opened([0u8; 10]);
-        return Answer {
-            number: ILMD_ZERO,
-            gauge,
-        };
+        return Err(Refusal::IlmdZero);
     }
-    let gauge = opened(configuration);
-    Answer {
-        number: NONE,
-        gauge,
-    }
+    Ok(opened(configuration))
 }

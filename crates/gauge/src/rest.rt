@@ -7,17 +7,16 @@ use configuration::configuration::sd;
 use grains::leak::leak_rate;
 
 impl Gauge {
-    pub(crate) fn rested(mut self, windows: u32, temperature: u16) -> Gauge
+    #[tactic(auto, unfolding(crate::specs::Rest::rest))]
+    pub(crate) fn rested(self, windows: u32, temperature: u16) -> Gauge
         ensures { result ≡ Spec.rest windows temperature self }
     {
-        let settings = self.settings;
-        let rate = leak_rate(sd(settings), temperature);
-        let charge = self.charge.rested(windows, rate);
-        let sample = self.sample.rested(temperature);
-        let counters = self.counters.rested(windows);
-        self.charge = charge;
-        self.sample = sample;
-        self.counters = counters;
-        self
+        let rate = leak_rate(sd(self.settings), temperature);
+        Gauge {
+            charge: self.charge.rested(windows, rate),
+            sample: self.sample.rested(temperature),
+            counters: self.counters.rested(windows),
+            ..self
+        }
     }
 }

@@ -6,7 +6,7 @@ use flags::flags::Flags;
 use host::host::Host;
 use sample::sample::Sample;
 
-#[derive(Clone, Copy)]
+#[derive(Clone, Copy, Debug, PartialEq, Eq)]
 pub struct Gauge {
     // the configuration bytes in force
     pub settings: Settings,

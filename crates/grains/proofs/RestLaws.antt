@@ -1,6 +1,6 @@
 -- The leak of windows one after the other: those that start with the same NAC lose the same. Assumes nothing.
 use mathlib.Core.Path.{◌≡◌, sym, ap, ◌∙◌}
-use Prim.Native.Nat.{ℕ, zero, suc, ◌+◌, ◌-◌, ◌*◌, ◌≤◌, ◌<◌}
+use Prim.Native.Nat.{ℕ, zero, suc, ◌+◌, ◌-◌, ◌*◌, ◌≤◌}
 use native.Mathlib.Nat.{suc-mul}
 use native.Mathlib.Omega.{arith}
 use Rattle.grains.specs.Grains.{grains_per_count, nac}
@@ -13,13 +13,20 @@ unfolding rest_leak
 leak_none n rate held e = ap (λ (k : ℕ). rest_leak k rate held) (sym e)
 
 -- after the first window, the others end where all end
-pub ends_after_first : {l : ℕ} (n rate held : ℕ) → 0 < n → l ≡ leak held rate → held - l - rest_leak (n - 1) rate (held - l) ≡ held - rest_leak n rate held
+pub ends_after_first : {l : ℕ} (m n rate held : ℕ) → m + 1 ≡ n → l ≡ leak held rate → held - l - rest_leak m rate (held - l) ≡ held - rest_leak n rate held
 unfolding rest_leak
-ends_after_first n rate held some el =
-    let i : suc (n - 1) ≡ n = omega arith in
+ends_after_first m n rate held e el =
+    let i : suc m ≡ n = omega arith in
     let r = leak held rate in
-    let d : held - r - rest_leak (n - 1) rate (held - r) ≡ held - (r + rest_leak (n - 1) rate (held - r)) = omega arith in
-    ap (λ (k : ℕ). held - k - rest_leak (n - 1) rate (held - k)) el ∙ d ∙ ap (λ (k : ℕ). held - rest_leak k rate held) i
+    let d : held - r - rest_leak m rate (held - r) ≡ held - (r + rest_leak m rate (held - r)) = omega arith in
+    ap (λ (k : ℕ). held - k - rest_leak m rate (held - k)) el ∙ d ∙ ap (λ (k : ℕ). held - rest_leak k rate held) i
+
+-- one window leaks what a window leaks
+pub leak_one : (n rate held : ℕ) → n ≡ 1 → leak held rate ≡ rest_leak n rate held
+unfolding rest_leak
+leak_one n rate held e =
+    let z : leak held rate ≡ leak held rate + 0 = omega arith in
+    z ∙ ap (λ (k : ℕ). rest_leak k rate held) (sym e)
 
 pub rest_leak_within : (n rate held : ℕ) → rate ≤ grains_per_count → rest_leak n rate held ≤ held
 unfolding rest_leak

@@ -11,8 +11,6 @@ pub const GRAINS_PER_UNIT: u64 = 192_000;
 // "65,535 × G".
 pub const MOST_DRAIN: u64 = 65_535 * GRAINS_PER_COUNT;
 
-const MOST_GRAINS: u64 = 18_446_744_073_709_551_615;
-
 pub fn nac(held: u64) -> u64
     ensures { result ≡ Spec.nac held }
 {
@@ -34,19 +32,13 @@ pub fn grains_of_current(units: u16) -> u64
 pub fn saturating_sum(grains: u64, more: u64) -> u64
     ensures { result ≡ Spec.saturating_sum grains more }
 {
-    if MOST_GRAINS - grains < more {
-        return MOST_GRAINS;
-    }
-    grains + more
+    grains.saturating_add(more)
 }
 
 pub fn saturating_difference(grains: u64, less: u64) -> u64
     ensures { result ≡ Spec.saturating_difference grains less }
 {
-    if grains < less {
-        return 0;
-    }
-    grains - less
+    grains.saturating_sub(less)
 }
 
 pub fn passes(drain: u64) -> bool

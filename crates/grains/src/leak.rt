@@ -8,6 +8,7 @@ use crate::grains::nac;
 const BAND_TABLE: [u8; 8] = [1, 2, 4, 8, 16, 32, 64, 128];
 
 // The band rises at 1,092 and then every 40 quarter kelvins, the last time at 1,332.
+#[tactic(auto, using(crate::proofs::LeakLaws::band_is))]
 pub fn band(temperature: u16) -> usize
     ensures { result ≡ Spec.band temperature }
 {
@@ -20,13 +21,14 @@ pub fn band(temperature: u16) -> usize
     (temperature - 1_052) as usize / 40
 }
 
+#[tactic(auto, using(crate::proofs::LeakLaws::band_below), unfolding(crate::specs::Leak::weight))]
 pub fn weight(temperature: u16) -> u8
     ensures { result ≡ Spec.weight temperature }
 {
-    let at = band(temperature);
-    BAND_TABLE[at]
+    BAND_TABLE[band(temperature)]
 }
 
+#[tactic(auto, unfolding(crate::specs::Leak::leak_rate))]
 pub fn leak_rate(sd: u8, temperature: u16) -> u16
     ensures { result ≡ Spec.leak_rate sd temperature }
 {
@@ -34,6 +36,7 @@ pub fn leak_rate(sd: u8, temperature: u16) -> u16
 }
 
 // A leak never exceeds the charge held, at any rate that its type holds.
+#[tactic(auto, using(crate::proofs::LeakLaws::leak_within), unfolding(crate::specs::Leak::leak))]
 pub fn leak(held: u64, rate: u16) -> u64
     ensures value { result ≡ Spec.leak held rate }
     ensures within { result ≤ held }

@@ -13,10 +13,7 @@ const MOST_RATE: u16 = 1_920;
 fn in_range(held: u64, rate: u16) -> bool
     ensures { result ≡ true → (held ≤ most_drain) × (rate ≤ 1_920) }
 {
-    if MOST_DRAIN < held {
-        return false;
-    }
-    rate <= MOST_RATE
+    held <= MOST_DRAIN && rate <= MOST_RATE
 }
 
 // Whole counts and the part of one.
@@ -27,7 +24,7 @@ fn grains_of(counts: u32, part: u32) -> u64
 }
 
 // What is held after the windows of a rest, in whole counts and the part of one. A step takes the windows that start with the same NAC. The last of
-// them loses a count, unless the rest ends before.
+// them loses a count, unless the rest ends before. No `for`: how many steps there are is known when they are done.
 fn held_after(held: u64, windows: u32, rate: u32) -> u64
     requires { (held ≤ most_drain) × (rate ≤ 1_920) }
     ensures { result ≡ held - Spec.rest_leak windows rate held }
@@ -49,7 +46,23 @@ fn held_after(held: u64, windows: u32, rate: u32) -> u64
     grains_of(counts, part)
 }
 
-// What the windows of a rest lose together. The first is taken by itself, so that a rest of one makes no step. Out of range each is.
+// What is held after the windows of a rest out of that range, which are taken one by one.
+fn held_after_each(held: u64, windows: u32, rate: u16) -> u64
+    ensures value { result ≡ held - Spec.rest_leak windows rate held }
+    ensures within { result ≤ held }
+{
+    let mut rested = held;
+    for _ in 0..windows {
+        let grains = leak(rested, rate);
+        if grains == 0 {
+            return rested;
+        }
+        rested -= grains;
+    }
+    rested
+}
+
+// What the windows of a rest lose together. The first is taken by itself, so that a rest of one makes no step.
 pub fn rest_leak(held: u64, windows: u32, rate: u16) -> u64
     ensures value { result ≡ Spec.rest_leak windows rate held }
     ensures within { result ≤ held }
@@ -57,18 +70,13 @@ pub fn rest_leak(held: u64, windows: u32, rate: u16) -> u64
     if windows == 0 {
         return 0;
     }
-    let mut rested = held - leak(held, rate);
-    let mut left = windows - 1;
-    while 0 < left {
-        if in_range(held, rate) {
-            return held - held_after(rested, left, rate as u32);
-        }
-        let grains = leak(rested, rate);
-        if grains == 0 {
-            return held - rested;
-        }
-        rested -= grains;
-        left -= 1;
+    let first = leak(held, rate);
+    if windows == 1 {
+        return first;
     }
-    held - rested
+    if in_range(held, rate) {
+        held - held_after(held - first, windows - 1, rate as u32)
+    } else {
+        held - held_after_each(held - first, windows - 1, rate)
+    }
 }

@@ -6,7 +6,7 @@ use Rattle.estimate.specs.Estimate.{distance_after, estimate_after, estimate_ref
 use Rattle.every_form.specs.EveryForm.{load_answer}
 use Rattle.gauge.specs.Calls.{rest_answer, window_answer, write_answer}
 use Rattle.gauge.specs.Opening.{open_refusal, opened}
-use Rattle.gauge.specs.declared.answer.Answer.{Answer}
+use Rattle.gauge.specs.Answer.{Answer}
 use Rattle.gauge.specs.declared.state.Gauge.{Gauge}
 unfoldable pub use Rattle.load.specs.Look.{look_leaves, look_number}
 use Rattle.preview.specs.Preview as Preview

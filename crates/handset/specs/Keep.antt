@@ -1,6 +1,6 @@
 -- What a call leaves in the saved bytes: on success the gauge that follows. Definitions only; assumes nothing.
 use Rattle.std.specs.Prelude.{cond, List, ℕ, eqb}
-use Rattle.gauge.specs.declared.answer.Answer.{Answer}
+use Rattle.gauge.specs.Answer.{Answer}
 use Rattle.refusals.specs.Refusal as Refusal
 use Rattle.refusals.specs.Refusal.{or_else}
 use Rattle.saved.specs.Save.{length_refusal, put_after}

@@ -9,8 +9,8 @@ use Rattle.charge.specs.Rest.{rested}
 use Rattle.command.specs.Command.{decide}
 use Rattle.command.specs.declared.command.Command.{Command}
 use Rattle.command.specs.declared.command.Command.TheVariants.{Setting, Reset}
-use Rattle.command.specs.declared.command.Decision.{Decision}
-use Rattle.command.specs.declared.command.Decision.TheVariants.{Obey, Refused}
+use Rattle.command.specs.Command.{Decision}
+use Rattle.std.specs.Prelude.{Ok, Err}
 use Rattle.command.specs.declared.command.Reset.TheVariants.{Prst, Frst}
 use Rattle.configuration.specs.Configuration.{dmf, sd}
 use Rattle.configuration.specs.Terms.{Terms, terms_of}
@@ -164,8 +164,8 @@ module _ (g : Gauge) (x : History) (s : Taken g) (f : Beside g x) where
 
   decided_beside : (d : Decision) → Beside (decided d g) (after_key d x)
   unfolding decided after_key
-  decided_beside (Obey command) = obeyed_beside command
-  decided_beside (Refused number) = f
+  decided_beside (Ok command) = obeyed_beside command
+  decided_beside (Err refusal) = f
 
   pub written_beside : (address value : ℕ) → Beside (written address value g) (after_write address value x)
   unfolding written after_write

@@ -7,7 +7,7 @@ use lib.Dec.{eqb, ltb}
 use lib.IntN.{ℤ, pos, negsuc}
 use lib.Signed.{le_z}
 use Rattle.command.specs.Command.{decide, decision_number}
-use Rattle.command.specs.declared.command.Decision.{Decision}
+use Rattle.command.specs.Command.{Decision}
 use Rattle.estimate.specs.Estimate.{estimate_refusal}
 use Rattle.gauge.specs.Accepted.{accepted}
 use Rattle.gauge.specs.Calls.{rest_answer, window_answer, write_answer, write_refusal}

@@ -6,8 +6,8 @@ use Rattle.std.proofs.Math.Option.{none}
 use Rattle.command.specs.Command.{decide}
 use Rattle.command.specs.declared.command.Command.{Command}
 use Rattle.command.specs.declared.command.Command.TheVariants.{Setting, Reset}
-use Rattle.command.specs.declared.command.Decision.{Decision}
-use Rattle.command.specs.declared.command.Decision.TheVariants.{Obey, Refused}
+use Rattle.command.specs.Command.{Decision}
+use Rattle.std.specs.Prelude.{Ok, Err}
 use Rattle.configuration.specs.Settings.{opened_settings}
 use Rattle.command.specs.declared.command.Reset.TheVariants.{Prst, Frst}
 use Rattle.configuration.specs.Terms.{terms_of}
@@ -59,8 +59,8 @@ without_command x = with_host (record { mode = commands_cleared x.host.mode; ar 
 
 -- "CTRL picks its command"
 unfoldable pub after_key : Decision → History → History
-after_key (Obey command) x = without_command (after_command command x)
-after_key (Refused number) x = x
+after_key (Ok command) x = without_command (after_command command x)
+after_key (Err refusal) x = x
 
 unfoldable pub after_write : ℕ → ℕ → History → History
 after_write address value x =

@@ -2,36 +2,30 @@
 -- it at each. A cleared INIT leaves the highest command bit, and cleared command bits leave none. Assumes nothing.
 use mathlib.Core.Bool.{Bool, true, false, cond}
 use mathlib.Core.Path.{◌≡◌, refl}
-use Prim.Native.Nat.{ℕ, ◌+◌, ◌*◌, ◌/◌, ◌%◌, ◌<◌}
+use Prim.Native.Nat.{ℕ, ◌+◌, ◌<◌}
 use lib.Dec.{T, eqb, eqb→eq}
+use Rattle.std.proofs.Common.{bit_and}
 use Rattle.command.specs.Command.{highest_command_bit, no_bit}
 use Rattle.numbers.specs.Bits.{bit_set}
 use Rattle.numbers.proofs.BitLaws.{at_each_bool, every_bool}
 use Rattle.numbers.proofs.EveryLaws.{at_each_below}
 use Rattle.host.specs.Host.{commands_cleared, init_cleared}
-use Rattle.host.specs.declared.host.Host.{Host}
-
-abbrev pub host_with : ℕ → ℕ → Host
-host_with mode ar = record { mode = mode; ar = ar }
-
-pub host_alike : {m n a b : ℕ} → m ≡ n → a ≡ b → host_with m a ≡ host_with n b
-host_alike p q = cc
 
 -- ---- the code's arithmetic
 
 commands_alike : ℕ → Bool
-commands_alike m = eqb (m / 64 * 64 + m / 4 % 2 * 4) (commands_cleared m)
+commands_alike m = eqb (bit_and m 0b1100_0100) (commands_cleared m)
 
-pub commands_cleared_is : (m : ℕ) → m < 256 → m / 64 * 64 + m / 4 % 2 * 4 ≡ commands_cleared m
+pub commands_cleared_is : (m : ℕ) → m < 256 → bit_and m 0b1100_0100 ≡ commands_cleared m
 unfolding commands_alike commands_cleared
-commands_cleared_is m h = eqb→eq (m / 64 * 64 + m / 4 % 2 * 4) (commands_cleared m) (at_each_below 256 commands_alike tt m h)
+commands_cleared_is m h = eqb→eq (bit_and m 0b1100_0100) (commands_cleared m) (at_each_below 256 commands_alike tt m h)
 
 init_alike : ℕ → Bool
-init_alike m = eqb (m / 8 * 8 + m % 4) (init_cleared m)
+init_alike m = eqb (bit_and m 0b1111_1011) (init_cleared m)
 
-pub init_cleared_is : (m : ℕ) → m < 256 → m / 8 * 8 + m % 4 ≡ init_cleared m
+pub init_cleared_is : (m : ℕ) → m < 256 → bit_and m 0b1111_1011 ≡ init_cleared m
 unfolding init_alike init_cleared
-init_cleared_is m h = eqb→eq (m / 8 * 8 + m % 4) (init_cleared m) (at_each_below 256 init_alike tt m h)
+init_cleared_is m h = eqb→eq (bit_and m 0b1111_1011) (init_cleared m) (at_each_below 256 init_alike tt m h)
 
 -- ---- the highest command bit
 

@@ -11,7 +11,7 @@ use Rattle.lines.specs.Reading.{start, spaced, goes_on, fed, fed_all, read_as}
 use Rattle.lines.specs.Word.{word_fed, word_fed_all, word_number}
 use Rattle.lines.specs.declared.line.Reading.{Reading}
 use Rattle.lines.specs.declared.line.Reading.TheVariants.{First, Second, Third, More}
-use Rattle.lines.specs.declared.word.Number.{Number}
+use Rattle.std.specs.Prelude.{Option, ℤ}
 use Rattle.lines.specs.declared.word.Word.{Word}
 use Rattle.lines.specs.declared.word.Word.TheVariants.{Empty}
 use Rattle.lines.proofs.NumberLaws.{number_read}
@@ -104,9 +104,9 @@ words_read (a ∷ []) = ap read_as (first_on Empty a)
 words_read (a ∷ b ∷ []) = ap read_as (second_begun a b)
 words_read (a ∷ b ∷ c ∷ []) =
     ap read_as (third_begun a b c)
-    ∙ ap (λ (n : Number). joined n (word_number (whole b)) (word_number (whole c))) (number_read a)
-    ∙ ap (λ (n : Number). joined (number a) n (word_number (whole c))) (number_read b)
-    ∙ ap (λ (n : Number). joined (number a) (number b) n) (number_read c)
+    ∙ ap (λ (n : Option ℤ). joined n (word_number (whole b)) (word_number (whole c))) (number_read a)
+    ∙ ap (λ (n : Option ℤ). joined (number a) n (word_number (whole c))) (number_read b)
+    ∙ ap (λ (n : Option ℤ). joined (number a) (number b) n) (number_read c)
 words_read (a ∷ b ∷ c ∷ d ∷ ws) =
     ap (λ (r : Reading). read_as (words_on (word_on (spaced r) d) ws)) (third_begun a b c)
     ∙ ap (λ (r : Reading). read_as (words_on r ws)) (more_on d)

@@ -3,14 +3,13 @@
 use mathlib.Core.Bool.{Bool, true, false, ◌&&◌, cond}
 use mathlib.Core.List.{List, [], ◌∷◌}
 use mathlib.Core.Path.{◌≡◌, refl, ap, ◌∙◌}
+use Rattle.std.specs.Prelude.{Option, Some, None, ℤ}
 use Prim.Native.Nat.{ℕ, ◌+◌, ◌-◌, ◌*◌, ◌<◌, min}
 use native.Mathlib.Omega.{arith}
 use lib.Dec.{eqb, leb}
 use borrow.Author.Tests.{lt-leb, leb-true, leb-false}
 use Rattle.lines.specs.Number.{is_digit, all_digits, value_from, greatest, signed, ranged, unsigned, number}
 use Rattle.lines.specs.Word.{past, grown, digit_fed, first_fed, word_fed, word_number, word_fed_all}
-use Rattle.lines.specs.declared.word.Number.{Number}
-use Rattle.lines.specs.declared.word.Number.TheVariants.{Whole, Unread}
 use Rattle.lines.specs.declared.word.Word.TheVariants.{Empty, Minus, Digits, Other}
 
 greatest_below : (negative : Bool) → greatest negative < past
@@ -23,13 +22,13 @@ unfolding ranged
 ranged_kept negative v = go (leb v (greatest negative)) refl
   where
     go : (t : Bool) → leb v (greatest negative) ≡ t
-        → cond (leb (min v past) (greatest negative)) (Whole (signed negative (min v past))) Unread
-        ≡ cond (leb v (greatest negative)) (Whole (signed negative v)) Unread
+        → cond (leb (min v past) (greatest negative)) (Some (signed negative (min v past))) None
+        ≡ cond (leb v (greatest negative)) (Some (signed negative v)) None
     go true e =
         let h = leb-true v (greatest negative) e in
         let g = greatest_below negative in
         let k : min v past ≡ v = omega arith in
-        ap (λ (n : ℕ). cond (leb n (greatest negative)) (Whole (signed negative n)) Unread) k
+        ap (λ (n : ℕ). cond (leb n (greatest negative)) (Some (signed negative n)) None) k
     go false e =
         let h = leb-false v (greatest negative) e in
         let g = greatest_below negative in
@@ -45,8 +44,8 @@ unfolding word_fed_all word_fed
 other_stays [] = refl
 other_stays (b ∷ bs) = other_stays bs
 
-abbrev digits_are : Bool → ℕ → Bool → List ℕ → Number
-digits_are negative v test bs = cond test (ranged negative (value_from v bs)) Unread
+abbrev digits_are : Bool → ℕ → Bool → List ℕ → Option ℤ
+digits_are negative v test bs = cond test (ranged negative (value_from v bs)) None
 
 digits_read : (negative : Bool) (v : ℕ) (bs : List ℕ)
     → word_number (word_fed_all (Digits negative (min v past)) bs) ≡ digits_are negative v (all_digits bs) bs

@@ -1,13 +1,14 @@
 -- Stores of a text one after the other, and the lent buffer with and without room. Assumes nothing.
-use mathlib.Core.List.{List, [], ◌∷◌, ◌++◌}
+use mathlib.Core.List.{List, [], ◌∷◌, ◌++◌, append_assoc}
 use mathlib.Core.Path.{◌≡◌, sym, ap, ◌∙◌}
-use Prim.Native.Nat.{ℕ, suc, ◌+◌, ◌≤◌, ◌<◌}
+use Prim.Native.Nat.{ℕ, suc, ◌+◌, ◌≤◌}
 use native.Mathlib.Nat.{add-zero, add-suc, suc-add}
-use native.Mathlib.Numerals.{add-one}
 use native.Mathlib.Omega.{arith}
-use lib.ListN.{length, drop, get_or, set, length-append}
-use lib.Seq.{sets, length-sets, set_comm, drop-cons, drop-length}
-use borrow.Author.Tests.{le-leb, lt-leb}
+use lib.ListN.{length, drop, set, take, length-append}
+use lib.Seq.{sets, sets-eq, length-sets}
+use borrow.Rule.Slice.PartMut.{put_mid}
+use Rattle.std.proofs.lemmas.List.{drop-drop}
+use borrow.Author.Tests.{le-leb}
 use Rattle.lines.specs.Put.{put_at, place_after}
 
 -- ---- stores
@@ -27,27 +28,13 @@ stored_behind text l out at n b e f =
     ∙ ap (λ (k : ℕ). set (sets out at text) (at + k) b) f
     ∙ sets_append text (b ∷ []) out at
 
--- the last byte first
-pub last_first : (xs l : List ℕ) (i d : ℕ) → sets (set l (i + length xs) d) i xs ≡ sets l i (xs ++ (d ∷ []))
-last_first [] l i d = ap (λ (k : ℕ). set l k d) (add-zero i)
-last_first (x ∷ xs) l i d =
-    ap (λ (m : List ℕ). sets m (suc i) xs) (set_comm l (i + suc (length xs)) i d x (λ e. let z : ⊥ = omega arith in z))
-    ∙ ap (λ (k : ℕ). sets (set (set l i x) k d) (suc i) xs) (add-suc i (length xs) ∙ sym (suc-add i (length xs)))
-    ∙ last_first xs (set l i x) (suc i) d
-
--- the first of the bytes of a text that are left, and the others
-pub next_stored : (text l : List ℕ) (at i : ℕ) → i < length text
-    → sets (set l (at + i) (get_or text i 0)) (at + (i + 1)) (drop (i + 1) text) ≡ sets l (at + i) (drop i text)
-next_stored text l at i h =
-    let after : at + (i + 1) ≡ suc (at + i) = omega arith in
-    ap (λ (k : ℕ). sets (set l (at + i) (get_or text i 0)) k (drop (i + 1) text)) after
-    ∙ ap (λ (k : ℕ). sets (set l (at + i) (get_or text i 0)) (suc (at + i)) (drop k text)) (add-one i)
-    ∙ sym (ap (λ (t : List ℕ). sets l (at + i) t) (drop-cons text i 0 h))
-
--- none is left
-pub all_stored : (text l : List ℕ) (at i : ℕ) → i ≡ length text → sets l (at + i) (drop i text) ≡ l
-all_stored text l at i e =
-    ap (λ (k : ℕ). sets l (at + i) (drop k text)) e ∙ ap (λ (t : List ℕ). sets l (at + i) t) (drop-length text)
+-- a part of the buffer that has become a text
+pub mid_stored : (at k : ℕ) (out text : List ℕ) → k ≡ length text → at + k ≤ length out → put_mid at k out text ≡ sets out at text
+mid_stored at k out text e h =
+    ap (λ (n : ℕ). put_mid at n out text) e
+    ∙ ap (λ (l : List ℕ). take at out ++ (text ++ l)) (drop-drop (length text) at out)
+    ∙ sym (append_assoc (take at out) text (drop (at + length text) out))
+    ∙ sym (sets-eq text out at (omega arith))
 
 -- ---- the lent buffer
 
@@ -59,14 +46,6 @@ module _ (room : ℕ) (text out : List ℕ) (at : ℕ) where
   pub place_here : at + room ≤ length out → at + length text ≡ place_after room text out at
   unfolding place_after
   place_here h = simp (le-leb (at + room) (length out) h)
-
-  pub put_nothing : length out < at + room → out ≡ put_at room text out at
-  unfolding put_at
-  put_nothing h = simp (lt-leb (at + room) (length out) h)
-
-  pub place_kept : length out < at + room → at ≡ place_after room text out at
-  unfolding place_after
-  place_kept h = simp (lt-leb (at + room) (length out) h)
 
 -- ---- what a caller with room knows: the text stands from the place on, and the next place is behind it
 

@@ -1,8 +1,6 @@
 -- What a whole number written in a text is: "an optional minus and digits .. from −2,147,483,648 to 2,147,483,647", and its value.
 -- Definitions only; assumes nothing.
-use Rattle.std.specs.Prelude.{Bool, true, false, ◌&&◌, cond, List, [], ◌∷◌, ℕ, ◌+◌, ◌-◌, ◌*◌, eqb, leb, ℤ, pos, neg_ℤ}
-use Rattle.lines.specs.declared.word.Number.{Number}
-use Rattle.lines.specs.declared.word.Number.TheVariants.{Whole, Unread}
+use Rattle.std.specs.Prelude.{Bool, true, false, ◌&&◌, cond, List, [], ◌∷◌, ℕ, ◌+◌, ◌-◌, ◌*◌, eqb, leb, Option, Some, None, ℤ, pos, neg_ℤ}
 
 -- ---- digits
 
@@ -37,16 +35,16 @@ greatest negative = cond negative 2_147_483_648 2_147_483_647
 abbrev pub signed : Bool → ℕ → ℤ
 signed negative magnitude = cond negative (neg_ℤ (pos magnitude)) (pos magnitude)
 
-unfoldable pub ranged : Bool → ℕ → Number
-ranged negative magnitude = cond (leb magnitude (greatest negative)) (Whole (signed negative magnitude)) Unread
+unfoldable pub ranged : Bool → ℕ → Option ℤ
+ranged negative magnitude = cond (leb magnitude (greatest negative)) (Some (signed negative magnitude)) None
 
 -- ---- a number
 
 -- the digits of a number whose sign is known
-unfoldable pub unsigned : Bool → List ℕ → Number
-unsigned negative bs = cond (are_digits bs) (ranged negative (value bs)) Unread
+unfoldable pub unsigned : Bool → List ℕ → Option ℤ
+unsigned negative bs = cond (are_digits bs) (ranged negative (value bs)) None
 
 -- "an optional minus and digits"; 45 is the minus
-unfoldable pub number : List ℕ → Number
-number [] = Unread
+unfoldable pub number : List ℕ → Option ℤ
+number [] = None
 number (b ∷ bs) = cond (eqb b 45) (unsigned true bs) (unsigned false (b ∷ bs))

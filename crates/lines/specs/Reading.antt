@@ -1,10 +1,8 @@
 -- How a line is read byte by byte. That this is `line` of its bytes together is proved, and stands in the contract of
 -- `Reading::start`. Definitions only; assumes nothing.
-use Rattle.std.specs.Prelude.{cond, List, [], ◌∷◌, ℕ, eqb}
+use Rattle.std.specs.Prelude.{cond, List, [], ◌∷◌, ℕ, eqb, Option, None, ℤ}
 use Rattle.lines.specs.Line.{joined}
 use Rattle.lines.specs.Word.{word_fed, word_number}
-use Rattle.lines.specs.declared.line.Line.{Line}
-use Rattle.lines.specs.declared.line.Line.TheVariants.{Unread}
 use Rattle.lines.specs.declared.line.Reading.{Reading}
 use Rattle.lines.specs.declared.line.Reading.TheVariants.{First, Second, Third, More}
 use Rattle.lines.specs.declared.word.Word.TheVariants.{Empty}
@@ -34,8 +32,8 @@ unfoldable pub fed_all : Reading → List ℕ → Reading
 fed_all r [] = r
 fed_all r (b ∷ bs) = fed_all (fed r b) bs
 
-unfoldable pub read_as : Reading → Line
-read_as (First a) = Unread
-read_as (Second a b) = Unread
+unfoldable pub read_as : Reading → Option (ℤ × ℤ × ℤ)
+read_as (First a) = None
+read_as (Second a b) = None
 read_as (Third a b c) = joined (word_number a) (word_number b) (word_number c)
-read_as More = Unread
+read_as More = None

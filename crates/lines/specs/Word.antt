@@ -1,8 +1,6 @@
 -- How a word is read byte by byte. That this is `number` of its bytes together is proved. Definitions only; assumes nothing.
-use Rattle.std.specs.Prelude.{Bool, true, false, cond, List, [], ◌∷◌, ℕ, ◌+◌, ◌-◌, ◌*◌, min, eqb}
+use Rattle.std.specs.Prelude.{Bool, true, false, cond, List, [], ◌∷◌, ℕ, ◌+◌, ◌-◌, ◌*◌, min, eqb, Option, None, ℤ}
 use Rattle.lines.specs.Number.{is_digit, ranged}
-use Rattle.lines.specs.declared.word.Number.{Number}
-use Rattle.lines.specs.declared.word.Number.TheVariants.{Unread}
 use Rattle.lines.specs.declared.word.Word.{Word}
 use Rattle.lines.specs.declared.word.Word.TheVariants.{Empty, Minus, Digits, Other}
 
@@ -25,11 +23,11 @@ word_fed Minus b = digit_fed true 0 b
 word_fed (Digits negative magnitude) b = digit_fed negative magnitude b
 word_fed Other b = Other
 
-unfoldable pub word_number : Word → Number
-word_number Empty = Unread
-word_number Minus = Unread
+unfoldable pub word_number : Word → Option ℤ
+word_number Empty = None
+word_number Minus = None
 word_number (Digits negative magnitude) = ranged negative magnitude
-word_number Other = Unread
+word_number Other = None
 
 -- the word after some further bytes
 unfoldable pub word_fed_all : Word → List ℕ → Word

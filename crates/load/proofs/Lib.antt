@@ -1,4 +1,3 @@
 pub mod LoadLaws
 pub mod LookLaws
-pub mod PartsLaws
 pub mod TakenLaws

@@ -1,69 +1,28 @@
 -- What bytes of the newest form are read as, and the tests that bytes of a form pass, in their order: stated of plain bytes. Assumes nothing.
 use mathlib.Core.Bool.{Bool, true, false, ◌&&◌, cond}
-use mathlib.Core.List.{List, []}
+use mathlib.Core.List.{List}
 use mathlib.Core.Path.{◌≡◌, refl, sym, ap, ◌∙◌}
-use Prim.Native.Nat.{ℕ, ◌+◌, ◌*◌}
+use Prim.Native.Nat.{ℕ}
 use native.Mathlib.Omega.{arith}
 use lib.Dec.{eqb}
-use lib.ListN.{get_or, length, replicate}
-use borrow.Author.Tests.{eq-eqb, eqb-true, ne_eqb}
+use lib.ListN.{length, replicate}
+use borrow.Author.Tests.{eq-eqb, eqb-true}
 use Rattle.flags.specs.Byte.{flags_fit}
-use Rattle.form.specs.Form.{Current, Flags, Form, FormNumber, length_of, newest, number_of, of_number, place_of, saved_length}
+use Rattle.form.specs.Form.{Current, Flags, Form, FormNumber, length_of, newest, number_of, saved_length}
 use Rattle.form.specs.Signed.{current_of}
 use Rattle.gauge.specs.Accepted.{accepted}
-use Rattle.gauge.specs.Opening.{open_answer, open_refusal}
-use Rattle.gauge.specs.declared.answer.Answer.{Answer}
+use Rattle.gauge.specs.Answer.{Answer}
 use Rattle.gauge.specs.declared.state.Gauge.{Gauge}
 use Rattle.numbers.proofs.BoolLaws.{and_left, and_right}
-use Rattle.numbers.proofs.LittleLaws.{one_is}
 use Rattle.refusals.specs.Refusal as Refusal
-use Rattle.sample.specs.declared.current.Current as Amount
-use Rattle.load.specs.Load.{accepted_answer, answer_in, carried_standby, decoded_gauge, fits_as, form_fits, loaded, of_length, read_in, rejected_answer}
+use Rattle.load.specs.Load.{accepted_answer, answer_in, carried_standby, decoded_gauge, form_fits, loaded, of_length, read_in, rejected_answer}
 
--- a number of one byte, read as a byte
-pub byte_is : {b x : ℕ} → b ≡ x → b ≡ x + 256 * 0
-byte_is e = omega arith
-
--- ---- the tests of a length and a number
+-- ---- bytes that are not tested yet
 
 module _ (bytes : List ℕ) where
-  module _ (number long : ℕ) where
-    pub not_length : (length bytes ≡ long → ⊥) → false ≡ fits_as number long newest bytes
-    not_length h = simp (ne_eqb (length bytes) long h)
-
-    pub not_form : {b : ℕ} → length bytes ≡ long → b ≡ get_or bytes (place_of (of_number FormNumber) newest.fields) 0 → (b ≡ number → ⊥)
-        → false ≡ fits_as number long newest bytes
-    not_form {b} l e h =
-        let is : b ≡ number_of FormNumber newest bytes = e ∙ sym (one_is (place_of (of_number FormNumber) newest.fields) bytes) in
-        simp (eq-eqb (length bytes) long l, ne_eqb (number_of FormNumber newest bytes) number (λ z. h (is ∙ z)))
-
-    pub flags_tested : {b p d : ℕ} {c : Amount.Current} {r : Bool} → length bytes ≡ long → b ≡ get_or bytes (place_of (of_number FormNumber) newest.fields) 0
-        → b ≡ number → p ≡ number_of Current newest bytes → c ≡ current_of p → d ≡ get_or bytes (place_of (of_number Flags) newest.fields) 0
-        → r ≡ flags_fit d c.charging → r ≡ fits_as number long newest bytes
-    flags_tested {d = d} l e n p q s t =
-        let is : number_of FormNumber newest bytes ≡ number = one_is (place_of (of_number FormNumber) newest.fields) bytes ∙ sym e ∙ n in
-        simp (eq-eqb (length bytes) long l, eq-eqb (number_of FormNumber newest bytes) number is)
-        (t ∙ ap (λ (c : Amount.Current). flags_fit d c.charging) (q ∙ ap current_of p)
-        ∙ ap (λ (x : ℕ). flags_fit x (current_of (number_of Current newest bytes)).charging) (byte_is s))
-
-  pub newest_fits : {r : Bool} → r ≡ fits_as newest.number saved_length newest bytes → r ≡ form_fits newest bytes
-  unfolding form_fits
-  newest_fits e = e
-
-  -- ---- bytes that are not tested yet
-
   own_length : (others : List ℕ) → length bytes ≡ saved_length → bytes ≡ of_length bytes others
   unfolding of_length
   own_length others l = simp (eq-eqb (length bytes) saved_length l)
-
-  other_length : (others : List ℕ) → (length bytes ≡ saved_length → ⊥) → others ≡ of_length bytes others
-  unfolding of_length
-  other_length others h = simp (ne_eqb (length bytes) saved_length h)
-
-  -- those of another length, a gauge of zeros
-  pub other_decoded : (length bytes ≡ saved_length → ⊥) → read_in newest (replicate saved_length 0) ≡ decoded_gauge bytes
-  unfolding decoded_gauge
-  other_decoded h = ap (read_in newest) (other_length (replicate saved_length 0) h)
 
   -- bytes of the form's length hold a gauge value
   pub decoded_whole : length bytes ≡ saved_length → decoded_gauge bytes ≡ read_in newest bytes
@@ -127,11 +86,6 @@ module _ (form : Form) (bytes : List ℕ) where
           let no : ⊥ = omega arith in
           absurd no
 
--- the gauge of an opening that was refused for its length
-pub rejected_is : {a : Answer} → a ≡ open_answer [] → record { number = Refusal.rejected; gauge = a.gauge } ≡ rejected_answer
-unfolding open_answer open_refusal rejected_answer
-rejected_is e = ap (λ (x : Answer). record { number = Refusal.rejected; gauge = x.gauge }) e
-
 -- ---- what bytes in a form are
 
 module _ (form : Form) (bytes : List ℕ) (f : form_fits form bytes ≡ true) where
@@ -164,3 +118,21 @@ newest_loaded bytes = refl
 -- bytes in the form hold a gauge value
 pub decoded_is : (bytes : List ℕ) → form_fits newest bytes ≡ true → decoded_gauge bytes ≡ loaded newest bytes
 decoded_is bytes f = decoded_whole bytes (form_length newest bytes f) ∙ newest_loaded bytes
+
+-- ---- what is tested before any call
+
+module _ (bytes : List ℕ) where
+  pub unfit_answer : form_fits newest bytes ≡ false → (answer_in newest bytes).number ≡ Refusal.rejected
+  unfolding rejected_answer
+  unfit_answer f = sym (ap (λ (x : Answer). x.number) (misfit_loads newest bytes f refl))
+
+  pub unaccepted_answer : form_fits newest bytes ≡ true → accepted (decoded_gauge bytes) ≡ false → (answer_in newest bytes).number ≡ Refusal.rejected
+  unfolding rejected_answer
+  unaccepted_answer f a = sym (ap (λ (x : Answer). x.number) (rejected_loads newest bytes f (sym (ap accepted (decoded_is bytes f)) ∙ a)))
+
+  pub passed_answer : form_fits newest bytes ≡ true → accepted (decoded_gauge bytes) ≡ true → (answer_in newest bytes).number ≡ Refusal.none
+  passed_answer f a = sym (ap (λ (x : Answer). x.number) (accepted_loads newest bytes f (decoded_is bytes f) a))
+
+  -- what passes is the gauge of the answer
+  pub gauge_loaded : (answer_in newest bytes).number ≡ Refusal.none → decoded_gauge bytes ≡ (answer_in newest bytes).gauge
+  gauge_loaded z = let w = loads newest bytes z in decoded_is bytes w.fits ∙ sym w.gauge

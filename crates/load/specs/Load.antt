@@ -7,7 +7,7 @@ use Rattle.form.specs.Signed.{current_of}
 use Rattle.gauge.specs.Accepted.{accepted}
 use Rattle.gauge.specs.Opening.{opened}
 use Rattle.gauge.specs.Parts.{gauge_of}
-use Rattle.gauge.specs.declared.answer.Answer.{Answer}
+use Rattle.gauge.specs.Answer.{Answer}
 use Rattle.gauge.specs.declared.state.Gauge.{Gauge}
 use Rattle.refusals.specs.Refusal as Refusal
 use Rattle.standby.specs.Standby.{sixteenths}

@@ -1,6 +1,5 @@
 // Loading a gauge, or a part of it, from bytes of the newest form.
 #![tactic(auto)]
 
-mod field;
 pub mod load;
 pub mod parts;

@@ -1,9 +1,11 @@
 // The parts of the gauge that bytes of the newest form hold, accepted or not, each by itself: what a call does not ask for is not read. Bytes of
 // another length are read as so many zeros; the length is tested once for a part, so that no read of a field tests it again.
-ghost use Rattle.std.specs.Prelude.{◌≡◌};
+#![tactic(auto, unfolding(crate::specs::Load::of_length, crate::specs::Load::decoded_gauge, crate::specs::Load::read_in, crate::specs::Fields::gauge_from, crate::specs::Fields::charge_from, crate::specs::Fields::sample_from, crate::specs::Fields::host_from, crate::specs::Fields::counters_from))]
+
+ghost use Rattle.std.specs.Prelude.{◌≡◌, replicate};
+ghost use Rattle.form.specs.Form.{saved_length};
 ghost use Rattle.load.specs.Load as Spec;
 
-use crate::field::{byte_in, eight_in, four_in, ten_in, two_in};
 use charge::charge::Charge;
 use configuration::settings::Settings;
 use counters::counters::Counters;
@@ -17,34 +19,30 @@ use form::form::{
 use form::signed::current_of;
 use grains::run::Run;
 use host::host::Host;
+use numbers::little::{bytes_at, number_at};
 use sample::sample::Sample;
 
-const SAVED_LENGTH: usize = LENGTH as usize;
+// Bytes of another length are read as so many zeros.
+fn saved_in(bytes: &[u8]) -> &[u8; LENGTH as usize]
+    ensures { result.now ≡ Spec.of_length bytes.now (replicate saved_length 0) }
+{
+    bytes.as_array().unwrap_or(&[0; LENGTH as usize])
+}
 
 pub fn loaded_settings(bytes: &[u8]) -> Settings
     ensures { result ≡ (Spec.decoded_gauge bytes.now).settings }
 {
-    if bytes.len() != SAVED_LENGTH {
-        return Settings::opened([0u8; 10]);
-    }
-    Settings::opened(ten_in(bytes, AT_CONFIGURATION))
+    Settings::opened(bytes_at(saved_in(bytes), AT_CONFIGURATION))
 }
 
 pub fn loaded_charge(bytes: &[u8]) -> Charge
     ensures { result ≡ (Spec.decoded_gauge bytes.now).charge }
 {
-    if bytes.len() != SAVED_LENGTH {
-        let run = Run::none();
-        return Charge {
-            held: 0,
-            lmd: 0,
-            run,
-        };
-    }
-    let held = eight_in(bytes, AT_HELD);
-    let dcr = eight_in(bytes, AT_DCR);
-    let lmd = two_in(bytes, AT_LMD);
-    let vdq = vdq_of(byte_in(bytes, AT_FLAGS));
+    let saved = saved_in(bytes);
+    let held = number_at(saved, AT_HELD);
+    let dcr = number_at(saved, AT_DCR);
+    let lmd = number_at(saved, AT_LMD);
+    let vdq = vdq_of(saved[AT_FLAGS as usize]);
     let run = Run { vdq, dcr };
     Charge { held, lmd, run }
 }
@@ -52,12 +50,10 @@ pub fn loaded_charge(bytes: &[u8]) -> Charge
 pub fn loaded_sample(bytes: &[u8]) -> Sample
     ensures { result ≡ (Spec.decoded_gauge bytes.now).sample }
 {
-    if bytes.len() != SAVED_LENGTH {
-        return Sample::none();
-    }
-    let current = current_of(two_in(bytes, AT_CURRENT));
-    let voltage = two_in(bytes, AT_VOLTAGE);
-    let temperature = two_in(bytes, AT_TEMPERATURE);
+    let saved = saved_in(bytes);
+    let current = current_of(number_at(saved, AT_CURRENT));
+    let voltage = number_at(saved, AT_VOLTAGE);
+    let temperature = number_at(saved, AT_TEMPERATURE);
     Sample {
         current,
         voltage,
@@ -69,41 +65,31 @@ pub fn loaded_sample(bytes: &[u8]) -> Sample
 pub fn loaded_standby(bytes: &[u8]) -> u16
     ensures { result ≡ (Spec.decoded_gauge bytes.now).standby }
 {
-    if bytes.len() != SAVED_LENGTH {
-        return 0;
-    }
-    two_in(bytes, AT_STANDBY)
+    number_at(saved_in(bytes), AT_STANDBY)
 }
 
 pub fn loaded_flags(bytes: &[u8]) -> Flags
     ensures { result ≡ (Spec.decoded_gauge bytes.now).flags }
 {
-    if bytes.len() != SAVED_LENGTH {
-        return Flags::opened(false);
-    }
-    flags_of(byte_in(bytes, AT_FLAGS))
+    flags_of(saved_in(bytes)[AT_FLAGS as usize])
 }
 
 pub fn loaded_host(bytes: &[u8]) -> Host
     ensures { result ≡ (Spec.decoded_gauge bytes.now).host }
 {
-    if bytes.len() != SAVED_LENGTH {
-        return Host { mode: 0, ar: 0 };
-    }
-    let mode = byte_in(bytes, AT_MODE);
-    let ar = two_in(bytes, AT_AR);
+    let saved = saved_in(bytes);
+    let mode = saved[AT_MODE as usize];
+    let ar = number_at(saved, AT_AR);
     Host { mode, ar }
 }
 
 pub fn loaded_counters(bytes: &[u8]) -> Counters
     ensures { result ≡ (Spec.decoded_gauge bytes.now).counters }
 {
-    if bytes.len() != SAVED_LENGTH {
-        return Counters::opened();
-    }
-    let rests = four_in(bytes, AT_RESTS);
-    let cyct = two_in(bytes, AT_CYCT);
-    let drain = eight_in(bytes, AT_CYCLE_DRAIN);
+    let saved = saved_in(bytes);
+    let rests = number_at(saved, AT_RESTS);
+    let cyct = number_at(saved, AT_CYCT);
+    let drain = number_at(saved, AT_CYCLE_DRAIN);
     let cycles = Cycles { cyct, drain };
     Counters { rests, cycles }
 }

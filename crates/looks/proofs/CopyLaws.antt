@@ -1,11 +1,10 @@
 -- Laws of the copy: the bytes of one pair stored, registers from the middle of the whole map, and what a copy of them leaves. Assumes nothing.
-use mathlib.Core.List.{List, [], ◌∷◌, ◌++◌, append-nil}
-use mathlib.Core.Path.{◌≡◌, refl, sym, ap, ◌∙◌}
-use Prim.Native.Nat.{ℕ, zero, suc, ◌+◌, ◌-◌, ◌*◌, ◌/◌, ◌%◌, ◌≤◌, ◌<◌}
+use mathlib.Core.List.{List, [], ◌∷◌, ◌++◌}
+use mathlib.Core.Path.{◌≡◌, refl, ap, ◌∙◌}
+use Prim.Native.Nat.{ℕ, zero, suc, ◌+◌, ◌-◌, ◌*◌, ◌/◌, ◌%◌, ◌≤◌}
 use native.Mathlib.Nat.{le_of_suc-le-suc, not-suc-le-zero}
 use native.Mathlib.Omega.{arith}
-use lib.ListN.{drop, length, length-set, set, take}
-use lib.Seq.{drop-length, sets, sets-eq}
+use lib.ListN.{drop, length, set, take}
 use Rattle.gauge.specs.declared.state.Gauge.{Gauge}
 use Rattle.registers.proofs.CopyLaws.{copied_all}
 use Rattle.registers.specs.Map.{pair_at, register, register_count, registers_from}
@@ -15,44 +14,17 @@ use Rattle.looks.proofs.MapLaws.{high_shown, low_shown}
 
 -- ---- the bytes of one pair of addresses: one of them, or both
 
--- stores of as many values as a list is long, from its start on, leave the values alone
-sets_all : (values s : List ℕ) → length s ≡ length values → sets s 0 values ≡ values
-sets_all values s e =
-    let whole : 0 + length values ≡ length s = omega arith in
-    sets-eq values s 0 (omega arith)
-    ∙ ap (λ (k : ℕ). values ++ drop k s) whole
-    ∙ ap (λ (l : List ℕ). values ++ l) (drop-length s)
-    ∙ append-nil values
+-- a store in each place of a list leaves the values alone
+pub one_stored : (s : List ℕ) (v : ℕ) → length s ≡ 1 → set s 0 v ≡ v ∷ []
+one_stored [] v e = absurd (omega arith)
+one_stored (x ∷ []) v e = refl
+one_stored (x ∷ (y ∷ s)) v e = absurd (omega arith)
 
-module _ (pair from : ℕ) (s : List ℕ) (h : pair < 65_536) (some : 1 ≤ length s) (fits : from + length s ≤ 2) where
-  pub high_stored : from ≡ 1 → set s 0 (pair / 256) ≡ pair_bytes pair from (length s)
-  high_stored e =
-      let one : length s ≡ 1 = omega arith in
-      let high : pair / 256 ≡ pair / 256 % 256 = omega arith in
-      ap (set s 0) high
-      ∙ sets_all (pair / 256 % 256 ∷ []) s one
-      ∙ sym (ap (pair_bytes pair from) one ∙ ap (λ (k : ℕ). pair_bytes pair k 1) e)
-
-  pub low_stored : (from ≡ 1 → ⊥) → length (set s 0 (pair % 256)) ≡ 1 → set s 0 (pair % 256) ≡ pair_bytes pair from (length s)
-  low_stored ne l =
-      let same = length-set s 0 (pair % 256) in
-      let one : length s ≡ 1 = omega arith in
-      let none : from ≡ 0 = omega arith in
-      sets_all (pair % 256 ∷ []) s one ∙ sym (ap (pair_bytes pair from) one ∙ ap (λ (k : ℕ). pair_bytes pair k 1) none)
-
-  pub two_long : (length (set s 0 (pair % 256)) ≡ 1 → ⊥) → 1 < length (set s 0 (pair % 256))
-  two_long ne = let same = length-set s 0 (pair % 256) in omega arith
-
-  pub both_stored : (from ≡ 1 → ⊥) → (length (set s 0 (pair % 256)) ≡ 1 → ⊥)
-      → set (set s 0 (pair % 256)) 1 (pair / 256) ≡ pair_bytes pair from (length s)
-  both_stored ne l =
-      let same = length-set s 0 (pair % 256) in
-      let two : length s ≡ 2 = omega arith in
-      let none : from ≡ 0 = omega arith in
-      let high : pair / 256 ≡ pair / 256 % 256 = omega arith in
-      ap (set (set s 0 (pair % 256)) 1) high
-      ∙ sets_all (pair % 256 ∷ (pair / 256 % 256 ∷ [])) s two
-      ∙ sym (ap (pair_bytes pair from) two ∙ ap (λ (k : ℕ). pair_bytes pair k 2) none)
+pub two_stored : (s : List ℕ) (v w : ℕ) → length s ≡ 2 → set (set s 0 v) 1 w ≡ v ∷ (w ∷ [])
+two_stored [] v w e = absurd (omega arith)
+two_stored (x ∷ []) v w e = absurd (omega arith)
+two_stored (x ∷ (y ∷ [])) v w e = refl
+two_stored (x ∷ (y ∷ (z ∷ s))) v w e = absurd (omega arith)
 
 -- they are the registers at its addresses
 module _ (g : Gauge) (a pair : ℕ) (e : pair ≡ pair_at g (a / 2)) where
@@ -78,9 +50,6 @@ module _ (g : Gauge) (a pair : ℕ) (e : pair ≡ pair_at g (a / 2)) where
 
   pub pair_copied : (n : ℕ) → 1 ≤ n → a % 2 + n ≤ 2 → pair_bytes pair (a % 2) n ≡ registers_from g a n
   pair_copied n some fits = registers_are (a % 2) n refl some fits
-
-pub pair_inside : (a n : ℕ) → 1 ≤ n → a + n ≤ register_count → a / 2 < 64
-pair_inside a n some inside = omega arith
 
 -- ---- registers from the middle of others
 
@@ -128,10 +97,3 @@ copied_middle g a whole part after w h e =
     ap (λ (k : ℕ). take k (drop a whole)) count ∙ ap (λ (l : List ℕ). take (length part) (drop a l)) w ∙ middle_registers g a (length part) h in
     copied_all (take (a + length part - a) (drop a whole)) part after (ap length middle ∙ length_registers_from g a (length part)) e
     ∙ middle
-
--- all of it
-pub whole_copied : (g : Gauge) (a n : ℕ) {after : List ℕ} → n ≡ register_count → a + n ≤ register_count → after ≡ whole_map g
-    → after ≡ registers_from g a n
-whole_copied g a n e h p =
-    let first : 0 ≡ a = omega arith in
-    p ∙ ap (λ (k : ℕ). registers_from g k register_count) first ∙ ap (registers_from g a) (sym e)

@@ -2,6 +2,6 @@ pub mod CopyLaws
 pub mod MapLaws
 pub mod PreviewLaws
 pub mod ReadingLaws
-pub mod TimesLaws
+pub mod TestedLaws
 pub mod ValuesLaws
 pub mod WholeLaws

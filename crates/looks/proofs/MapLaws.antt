@@ -31,11 +31,6 @@ module _ (g : Gauge) {pair n : ℕ} (e : pair ≡ n) where
       → pair_at g n ≡ byte_at low 0 + 256 * byte_at high 0 → v + 256 * w ≡ pair_at g pair
   shows_bytes p q h k at = bytes_shown p q h k ∙ sym at ∙ sym (ap (λ (k : ℕ). pair_at g k) e)
 
--- the last pair of a group of five
-pub last_of_five : (n : ℕ) {pair : ℕ} → n ≤ pair → pair < n + 5 → (pair ≡ n → ⊥) → (pair ≡ n + 1 → ⊥) → (pair ≡ n + 2 → ⊥)
-    → (pair ≡ n + 3 → ⊥) → pair ≡ n + 4
-last_of_five n h k a b c d = omega arith
-
 -- ---- the configuration's bytes stand from 0x76 = 2 * 59 on
 
 configuration_at : (g : Gauge) (k : ℕ) → k < 5 → pair_at g (59 + k) ≡ configuration_pair g.settings k

@@ -1,25 +1,24 @@
 -- A preview of the saved bytes: the key is written to a copy, whose bytes hold the gauge after the command, and what is shown of them are the registers of
 -- that gauge. Assumes nothing.
-use mathlib.Core.Bool.{Bool, true, false}
+use mathlib.Core.Bool.{true}
 use mathlib.Core.List.{List, [], ◌++◌, append-nil}
-use mathlib.Core.Path.{◌≡◌, refl, sym, ap, subst, ◌∙◌}
+use mathlib.Core.Path.{◌≡◌, sym, ap, subst, ◌∙◌}
 use Prim.Native.Nat.{ℕ, ◌<◌}
 use lib.ListN.{drop, get_or, length}
 use lib.Seq.{drop-length}
 use borrow.Author.Tests.{eq-eqb, ne_eqb}
 use Rattle.command.specs.Command.{command_of, decide}
-use Rattle.form.specs.Form.{newest, saved_length}
+use Rattle.form.specs.Form.{newest}
 use Rattle.gauge.specs.Accepted.{accepted}
 use Rattle.gauge.specs.Calls.{write_answer}
 use Rattle.gauge.specs.Fits.{Taken}
-use Rattle.gauge.specs.declared.answer.Answer.{Answer}
+use Rattle.gauge.specs.Answer.{Answer}
 use Rattle.gauge.specs.declared.state.Gauge.{Gauge}
 use Rattle.gauge.proofs.ObeyedKept.{key_taken}
 use Rattle.host.specs.declared.host.Host.{Host}
-use Rattle.load.specs.Load.{answer_in, decoded_gauge, form_fits, loaded, rejected_answer}
+use Rattle.load.specs.Load.{answer_in, decoded_gauge, loaded}
 use Rattle.load.specs.Look.{look_leaves, look_number}
-use Rattle.load.proofs.LoadLaws.{decoded_is, form_length, loads, rejected_loads}
-use Rattle.load.proofs.LookLaws.{misfit_leaves, misfit_number}
+use Rattle.load.proofs.LoadLaws.{decoded_is, loads}
 use Rattle.load.proofs.TakenLaws.{newest_taken}
 use Rattle.preview.specs.Preview as Preview
 use Rattle.preview.specs.Preview.{command_after, on_copy, preview_refusal, whole_reply_refusal}
@@ -33,7 +32,6 @@ use Rattle.registers.specs.Whole.{whole_map}
 use Rattle.round_trip.proofs.RoundTripLaws.{load_of_saved}
 use Rattle.saved.specs.Call.{call_bytes, call_number}
 use Rattle.saved.specs.Save.{saved_bytes}
-use Rattle.saved.proofs.SaveLaws.{saved_length_lem}
 
 -- all registers fill a reply of their number
 whole_reply : (g : Gauge) (reply : List ℕ) → length reply ≡ register_count → reply_with g 0x00 register_count 0 reply ≡ whole_map g
@@ -52,22 +50,6 @@ module _ (saved : List ℕ) (key : ℕ) (reply : List ℕ) (before : ℕ) where
   -- the key written to the gauge that the bytes hold
   abbrev keyed : Gauge → Answer
   keyed g = write_answer g 0x00 key
-
-  pub misfits : form_fits newest saved ≡ false → Answers Refusal.rejected reply before
-  misfits f = (misfit_number saved f _, (misfit_leaves saved f _ _, misfit_leaves saved f _ _))
-
-  pub of_another_length : (length saved ≡ saved_length → ⊥) → Answers Refusal.rejected reply before
-  of_another_length n = go (form_fits newest saved) refl
-    where
-      go : (t : Bool) → form_fits newest saved ≡ t → Answers Refusal.rejected reply before
-      go true f = absurd (n (form_length newest saved f))
-      go false f = misfits f
-
-  pub rejects : form_fits newest saved ≡ true → accepted (decoded_gauge saved) ≡ false → Answers Refusal.rejected reply before
-  unfolding look_number look_leaves rejected_answer
-  rejects f a =
-      let l = sym (rejected_loads newest saved f (ap accepted (sym (decoded_is saved f)) ∙ a)) in
-      (simp l, (simp l, simp l))
 
   -- the gauge that the bytes hold, and the copy after the key
   held : Gauge
@@ -128,9 +110,6 @@ module _ (saved : List ℕ) (key : ℕ) (reply : List ℕ) (before : ℕ) where
           decoded_is bytes l.fits ∙ sym l.gauge ∙ ap (λ (x : Answer). x.gauge) copy_loads
 
       -- what the map of the copy asks
-      pub copy_length : length bytes ≡ saved_length
-      copy_length = ap length (b ∙ copy_bytes) ∙ saved_length_lem copied.gauge
-
       pub copy_accepted : accepted (decoded_gauge bytes) ≡ true
       copy_accepted = ap accepted copy_decoded ∙ copy_taken.accepted
 

@@ -12,10 +12,9 @@ use borrow.Author.Tests.{eq-eqb, le-ltb, lt-ltb, ne_eqb}
 use Rattle.form.specs.Form.{newest, saved_length}
 use Rattle.gauge.specs.Accepted.{accepted}
 use Rattle.gauge.specs.declared.state.Gauge.{Gauge}
-use Rattle.load.specs.Load.{answer_in, decoded_gauge, form_fits}
+use Rattle.load.specs.Load.{answer_in, decoded_gauge}
 use Rattle.load.specs.Look.{look_leaves, look_number}
-use Rattle.load.proofs.LoadLaws.{decoded_is}
-use Rattle.load.proofs.LookLaws.{ForRejected, look_leaves_lem, look_number_lem, misfit_leaves, misfit_number}
+use Rattle.looks.proofs.TestedLaws.{held_leaves, held_number}
 use Rattle.refusals.specs.Refusal as Refusal
 use Rattle.registers.specs.Map.{register_count, registers_from}
 use Rattle.registers.specs.Reading.{place_refusal, read_refusal, reply_after, reply_with}
@@ -44,7 +43,7 @@ lent_back g a p n reply part h e =
 
 module _ (g : Gauge) (address count place : ℕ) (reply : List ℕ) where
   -- the number, and every byte of the reply afterwards
-  abbrev Answers : ℕ → List ℕ → Type 0
+  abbrev pub Answers : ℕ → List ℕ → Type 0
   Answers number after =
       (number ≡ read_refusal g address count place (length reply)) × (after ≡ reply_after g address count place reply)
 
@@ -84,10 +83,6 @@ module _ (g : Gauge) (address count place : ℕ) (reply : List ℕ) where
             (simp (p, ne_eqb count 0 some, le-ltb register_count (address + count) within, lt-ltb (length reply) (place + count) o))
 
         module _ (i : place + count ≤ length reply) where
-          pub lent_fits : (1 ≤ length (take (place + count - place) (drop place reply)))
-              × (address + length (take (place + count - place) (drop place reply)) ≤ register_count)
-          lent_fits = let e = lent_length place count reply i in (omega arith, omega arith)
-
           pub read_done : {part : List ℕ} → part ≡ registers_from g address (length (take (place + count - place) (drop place reply)))
               → Answers Refusal.none (take place reply ++ (part ++ drop (place + count - place) (drop place reply)))
           unfolding read_refusal place_refusal
@@ -98,31 +93,15 @@ module _ (g : Gauge) (address count place : ℕ) (reply : List ℕ) where
 
 -- ---- a read of the saved bytes
 
--- a gauge value that is rejected: 14, and the reply keeps
-module _ (address count place : ℕ) where
-  read_rejects : (reply_length : ℕ) → ForRejected (λ g. read_refusal g address count place reply_length) Refusal.rejected
-  unfolding read_refusal
-  read_rejects reply_length = record { is = λ g e. simp e }
-
-  read_keeps : (reply : List ℕ) → ForRejected (λ g. reply_after g address count place reply) reply
-  unfolding read_refusal reply_after
-  read_keeps reply = record { is = λ g e. simp e }
-
 module _ (saved : List ℕ) (address count place : ℕ) (reply : List ℕ) where
   abbrev Looked : ℕ → List ℕ → Type 0
   Looked number after =
       (number ≡ look_number saved (λ g. read_refusal g address count place (length reply)))
       × (after ≡ look_leaves saved (λ g. reply_after g address count place reply) reply)
 
-  pub misfit_read : form_fits newest saved ≡ false → Looked Refusal.rejected reply
-  misfit_read f = (misfit_number saved f _, misfit_leaves saved f _ _)
-
-  pub looked : {number : ℕ} {after : List ℕ} → form_fits newest saved ≡ true → Answers (decoded_gauge saved) address count place reply number after
-      → Looked number after
-  looked f a = (
-    look_number_lem saved f (decoded_is saved f) (read_rejects address count place (length reply)) a.0,
-    look_leaves_lem saved f (decoded_is saved f) (read_keeps address count place reply) a.1,
-  )
+  pub looked : {number : ℕ} {after : List ℕ} → (answer_in newest saved).number ≡ Refusal.none
+      → Answers (decoded_gauge saved) address count place reply number after → Looked number after
+  looked z a = (a.0 ∙ held_number saved z _, a.1 ∙ held_leaves saved z _ _)
 
 -- ---- a read of a gauge value, which is saved first into a buffer of the form's length
 

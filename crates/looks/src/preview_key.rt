@@ -3,46 +3,32 @@
 ghost use Rattle.std.specs.Prelude.{◌≡◌, length};
 ghost use Rattle.load.specs.Look.{look_leaves, look_number};
 ghost use Rattle.preview.specs.Preview as Spec;
+ghost use Rattle.refusals.specs.Refusal.{number_of};
 
-use crate::whole::put_registers;
+use crate::whole::{SAVED_LENGTH, put_registers};
 use command::command::command_of;
-use form::form::LENGTH;
-use load::load::{form_fits, gauge_accepted};
+use load::load::tested;
 use load::parts::loaded_host;
 use moves::key::press;
-use numbers::front::put_front;
-use refusals::{BUFFER_LENGTH, NONE, REJECTED};
-use registers::REGISTER_COUNT;
+use refusals::Refusal;
 
-// The bytes of the newest form.
-const SAVED_LENGTH: usize = LENGTH as usize;
-
-// 14, 8 to 11, 13, or 0, the registers after the key and the command that it obeys.
-pub fn preview(saved: &[u8], key: u8, reply: &mut [u8], command: &mut u8) -> u32
-    ensures number { result ≡ look_number saved.now (λ g. Spec.preview_refusal g key (length reply.old)) }
+// 14, 8 to 11, 13, or the registers after the key and the command that it obeys.
+#[tactic(auto, using(crate::proofs::TestedLaws::misfit_answer, refusals::proofs::OrElseLaws::number_above), unfolding(load::specs::Look::look_leaves, load::specs::Look::look_number))]
+pub fn preview(saved: &[u8], key: u8, reply: &mut [u8], command: &mut u8) -> Result<(), Refusal>
+    ensures number { number_of result ≡ look_number saved.now (λ g. Spec.preview_refusal g key (length reply.old)) }
     ensures bytes { reply.new ≡ look_leaves saved.now (λ g. Spec.reply_after g key reply.old) reply.old }
     ensures command { command.new ≡ look_leaves saved.now (λ g. Spec.command_after g key (length reply.old) command.old) command.old }
 {
-    if saved.len() != SAVED_LENGTH {
-        return REJECTED;
-    }
-    let mut copied = [0u8; SAVED_LENGTH];
-    put_front(saved, &mut copied);
-    if !form_fits(&copied) {
-        return REJECTED;
-    }
-    if !gauge_accepted(&copied) {
-        return REJECTED;
-    }
-    let number = press(&mut copied, key);
-    if number != NONE {
-        return number;
-    }
-    if reply.len() != REGISTER_COUNT {
-        return BUFFER_LENGTH;
-    }
+    let Ok(mut copied) = <[u8; SAVED_LENGTH]>::try_from(saved) else {
+        return Err(Refusal::Rejected);
+    };
+    tested(&copied)?;
+    press(&mut copied, key)?;
+    let Some(map) = reply.as_mut_array() else {
+        return Err(Refusal::BufferLength);
+    };
     let host = loaded_host(saved);
     *command = command_of(key, host.mode, host.ar);
-    put_registers(&copied, reply);
-    NONE
+    put_registers(&copied, map);
+    Ok(())
 }

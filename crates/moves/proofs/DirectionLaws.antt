@@ -18,16 +18,14 @@ use Rattle.form.specs.Form.{newest}
 use Rattle.gauge.specs.Parts.{gauge_of}
 use Rattle.gauge.specs.Window.{window}
 use Rattle.gauge.specs.declared.state.Gauge.{Gauge}
-use Rattle.gauge.proofs.WindowLaws.{stepped_is}
 use Rattle.host.specs.Host.{full_if}
 use Rattle.host.specs.declared.host.Host.{Host}
 use Rattle.load.specs.Load.{decoded_gauge, form_fits}
-use Rattle.reached.specs.ChargeAfter.{summed}
+use Rattle.reached.specs.ChargeAfter.{charge_after, reached_in, summed}
 use Rattle.reached.specs.Ending.{ending_of}
 use Rattle.reached.specs.Full.{is_full}
-use Rattle.reached.specs.Reached.{charge_ended, filled_if, flags_ended}
+use Rattle.reached.specs.Reached.{charge_ended, charge_reached, filled_if, flags_ended, reached_by}
 use Rattle.reached.specs.declared.ending.Ending.{Ending}
-use Rattle.reached.specs.declared.ending.Ending.TheVariants.{Above}
 use Rattle.sample.specs.Current.{counted, discharge_current, no_current}
 use Rattle.sample.specs.declared.current.Current.{Current}
 use Rattle.sample.specs.declared.sample.Sample.{Sample}
@@ -45,9 +43,8 @@ module _ (v t : ℕ) (g : Gauge) where
   idle_window : gauge_of g.settings (summed (terms_of g.settings) no_current t g.charge) (sample_of no_current v t) g.standby g.flags g.host
       (counters_moved g.charge.lmd no_current g.counters)
       ≡ window no_current v t g
-  unfolding is_full discharge_current ending_of filled_if charge_ended cleared_if flags_ended full_if averaged
-  idle_window =
-      stepped_is no_current v t g {b = false} {e = Above} refl refl refl refl refl refl refl refl refl refl refl refl
+  unfolding window charge_after charge_reached reached_in reached_by is_full discharge_current ending_of filled_if charge_ended cleared_if flags_ended full_if averaged
+  idle_window = refl
 
   module _ (n : ℕ) where
     charged_window : {full : Bool} → full ≡ is_full (terms_of g.settings) (charging n) v (summed (terms_of g.settings) (charging n) t g.charge).held
@@ -55,16 +52,16 @@ module _ (v t : ℕ) (g : Gauge) where
         → gauge_of g.settings (filled_if full (summed (terms_of g.settings) (charging n) t g.charge)) (sample_of (charging n) v t) g.standby
         (cleared_if true g.flags) (full_if full g.host) (counters_moved g.charge.lmd (charging n) g.counters)
         ≡ window (charging n) v t g
-    unfolding discharge_current ending_of charge_ended flags_ended averaged
-    charged_window {full} e = stepped_is (charging n) v t g {b = full} {e = Above} refl e refl refl refl refl refl refl refl refl refl refl
+    unfolding window charge_after charge_reached reached_in reached_by discharge_current ending_of charge_ended flags_ended averaged
+    charged_window e = rw e refl
 
     discharged_window : {ending : Ending}
         → ending ≡ ending_of (terms_of g.settings) (summed (terms_of g.settings) (discharging n) t g.charge).run.vdq n v t
         → gauge_of g.settings (charge_ended ending (summed (terms_of g.settings) (discharging n) t g.charge)) (sample_of (discharging n) v t)
         (averaged (s0 g.settings) g.standby n) (flags_ended ending g.flags) g.host (counters_moved g.charge.lmd (discharging n) g.counters)
         ≡ window (discharging n) v t g
-    unfolding is_full discharge_current filled_if cleared_if full_if
-    discharged_window {ending} e = stepped_is (discharging n) v t g {b = false} {e = ending} refl refl refl e refl refl refl refl refl refl refl refl
+    unfolding window charge_after charge_reached reached_in reached_by is_full discharge_current filled_if cleared_if full_if
+    discharged_window e = rw e refl
 
 -- ---- on the bytes
 

@@ -5,8 +5,7 @@ use mathlib.Core.Path.{◌≡◌, refl, ap, ◌∙◌}
 use Prim.Native.Nat.{ℕ, zero, suc, ◌+◌, ◌*◌, ◌/◌, ◌%◌, ◌≤◌, ◌<◌}
 use native.Mathlib.Omega.{arith}
 use lib.ListN.{get_or, set}
-use borrow.Author.Tests.{eq-eqb, ne_eqb}
-use Rattle.form.specs.Form.{laid_out, newest, saved_length}
+use Rattle.form.specs.Form.{laid_out, newest}
 use Rattle.gauge.specs.Calls.{stored_at}
 use Rattle.gauge.specs.declared.state.Gauge.{Gauge}
 use Rattle.host.specs.Host.{stored}
@@ -15,20 +14,6 @@ use Rattle.load.specs.Load.{decoded_gauge, form_fits}
 use Rattle.saved.specs.Save.{field_bytes, saved_bytes}
 use Rattle.moves.proofs.BytesLaws.{own_bytes}
 use Rattle.moves.specs.Place.{host_place}
-
--- ---- where it stands
-
-pub place_of_mode : {address : ℕ} → address ≡ 1 → (39 ≡ host_place address) × (39 < saved_length)
-unfolding host_place
-place_of_mode {address} e = (simp (eq-eqb address 1 e), omega arith)
-
-pub place_of_low : {address : ℕ} → (address ≡ 1 → ⊥) → address ≡ 2 → (37 ≡ host_place address) × (37 < saved_length)
-unfolding host_place
-place_of_low {address} n e = (simp (ne_eqb address 1 n, eq-eqb address 2 e), omega arith)
-
-pub place_of_high : {address : ℕ} → (address ≡ 1 → ⊥) → (address ≡ 2 → ⊥) → (38 ≡ host_place address) × (38 < saved_length)
-unfolding host_place
-place_of_high {address} n m = (simp (ne_eqb address 1 n, ne_eqb address 2 m), omega arith)
 
 -- ---- one byte of a saved gauge
 

@@ -1,11 +1,9 @@
 -- A key at CTRL on bytes of the newest form, accepted or not: the number of its decision, and the command's gauge put into the bytes. Definitions
 -- only; assumes nothing.
-use Rattle.std.specs.Prelude.{List, ℕ}
-use Rattle.command.specs.Command.{decide, decision_number}
+use Rattle.std.specs.Prelude.{List, ℕ, Ok, Err}
+use Rattle.command.specs.Command.{Decision, decide, decision_number}
 use Rattle.command.specs.declared.command.Command.{Command}
 use Rattle.command.specs.declared.command.Command.TheVariants.{Reset, Setting}
-use Rattle.command.specs.declared.command.Decision.{Decision}
-use Rattle.command.specs.declared.command.Decision.TheVariants.{Obey, Refused}
 use Rattle.gauge.specs.Obey.{obeyed}
 use Rattle.gauge.specs.declared.state.Gauge.{Gauge}
 use Rattle.load.specs.Load.{decoded_gauge}
@@ -30,8 +28,8 @@ obeyed_put (Reset reset) g bytes = parts_put g bytes
 
 -- a refused key leaves the bytes
 unfoldable pub decided_put : Decision → Gauge → List ℕ → List ℕ
-decided_put (Obey command) g bytes = obeyed_put command (obeyed command g) bytes
-decided_put (Refused number) g bytes = bytes
+decided_put (Ok command) g bytes = obeyed_put command (obeyed command g) bytes
+decided_put (Err refusal) g bytes = bytes
 
 unfoldable pub key_bytes : List ℕ → ℕ → List ℕ
 key_bytes bytes key = decided_put (decided key (decoded_gauge bytes)) (decoded_gauge bytes) bytes

@@ -30,29 +30,29 @@ fn count(saved: &mut [u8], lmd: u16, current: Current)
     put_counters(saved, counters);
 }
 
-fn idle(saved: &mut [u8], voltage: u16, temperature: u16)
+fn idle(saved: &mut [u8], sample: &Sample)
     requires { form_fits newest saved.old ≡ true }
-    ensures { saved.new ≡ saved_bytes (window no_current voltage temperature (decoded_gauge saved.old)) }
+    ensures { saved.new ≡ saved_bytes (window no_current sample.now.voltage sample.now.temperature (decoded_gauge saved.old)) }
 {
     let settings = loaded_settings(saved);
     let before = loaded_charge(saved);
     let flags = loaded_flags(saved);
     let zero = Current::none();
-    count(saved, before.lmd, zero);
-    let charge = summed(before, settings, zero, temperature);
-    put_charge(saved, charge);
-    put_flags(saved, false, charge.run.vdq, flags);
     let sample = Sample {
         current: zero,
-        voltage,
-        temperature,
+        ..*sample
     };
+    count(saved, before.lmd, zero);
+    let charge = summed(before, settings, sample);
+    put_charge(saved, charge);
+    put_flags(saved, false, charge.run.vdq, flags);
     put_sample(saved, sample);
 }
 
-fn charged(saved: &mut [u8], magnitude: u16, voltage: u16, temperature: u16)
+fn charged(saved: &mut [u8], sample: &Sample)
     requires { form_fits newest saved.old ≡ true }
-    ensures { saved.new ≡ saved_bytes (window (Spec.charging magnitude) voltage temperature (decoded_gauge saved.old)) }
+    ensures { saved.new
+        ≡ saved_bytes (window (Spec.charging sample.now.current.magnitude) sample.now.voltage sample.now.temperature (decoded_gauge saved.old)) }
 {
     let settings = loaded_settings(saved);
     let before = loaded_charge(saved);
@@ -60,61 +60,54 @@ fn charged(saved: &mut [u8], magnitude: u16, voltage: u16, temperature: u16)
     let host = loaded_host(saved);
     let current = Current {
         charging: true,
-        magnitude,
+        ..sample.current
     };
+    let sample = Sample { current, ..*sample };
     count(saved, before.lmd, current);
-    let sum = summed(before, settings, current, temperature);
-    let full = is_full(settings, current, voltage, sum.held, sum.lmd);
+    let sum = summed(before, settings, sample);
+    let full = is_full(settings, sample, sum);
     let charge = filled_if(sum, full);
     put_charge(saved, charge);
     put_host(saved, host.full_if(full));
     put_flags(saved, true, charge.run.vdq, flags);
-    let sample = Sample {
-        current,
-        voltage,
-        temperature,
-    };
     put_sample(saved, sample);
 }
 
-fn discharged(saved: &mut [u8], magnitude: u16, voltage: u16, temperature: u16)
+fn discharged(saved: &mut [u8], sample: &Sample)
     requires { form_fits newest saved.old ≡ true }
-    ensures { saved.new ≡ saved_bytes (window (Spec.discharging magnitude) voltage temperature (decoded_gauge saved.old)) }
+    ensures { saved.new
+        ≡ saved_bytes (window (Spec.discharging sample.now.current.magnitude) sample.now.voltage sample.now.temperature (decoded_gauge saved.old)) }
 {
     let settings = loaded_settings(saved);
     let before = loaded_charge(saved);
     let standby = loaded_standby(saved);
     let current = Current {
         charging: false,
-        magnitude,
+        ..sample.current
     };
+    let sample = Sample { current, ..*sample };
     count(saved, before.lmd, current);
-    let sum = summed(before, settings, current, temperature);
-    let ending = ending_of(settings, sum.run.vdq, magnitude, voltage, temperature);
+    let sum = summed(before, settings, sample);
+    let ending = ending_of(settings, sum.run.vdq, sample);
     let charge = charge_ended(sum, ending);
     let flags = flags_ended(loaded_flags(saved), ending);
     put_charge(saved, charge);
     put_flags(saved, false, charge.run.vdq, flags);
-    put_standby(saved, averaged(settings, standby, magnitude));
-    let sample = Sample {
-        current,
-        voltage,
-        temperature,
-    };
+    put_standby(saved, averaged(settings, standby, current.magnitude));
     put_sample(saved, sample);
 }
 
-pub(crate) fn stepped(saved: &mut [u8], current: Current, voltage: u16, temperature: u16)
-    requires { (form_fits newest saved.old ≡ true) × (current.magnitude ≡ 0 → current ≡ no_current) }
-    ensures { saved.new ≡ saved_bytes (window current voltage temperature (decoded_gauge saved.old)) }
+pub(crate) fn stepped(saved: &mut [u8], sample: &Sample)
+    requires { (form_fits newest saved.old ≡ true) × (sample.now.current.magnitude ≡ 0 → sample.now.current ≡ no_current) }
+    ensures { saved.new ≡ saved_bytes (window sample.now.current sample.now.voltage sample.now.temperature (decoded_gauge saved.old)) }
 {
-    if current.magnitude == 0 {
-        idle(saved, voltage, temperature);
+    if sample.current.magnitude == 0 {
+        idle(saved, sample);
         return;
     }
-    if current.charging {
-        charged(saved, current.magnitude, voltage, temperature);
+    if sample.current.charging {
+        charged(saved, sample);
         return;
     }
-    discharged(saved, current.magnitude, voltage, temperature);
+    discharged(saved, sample);
 }

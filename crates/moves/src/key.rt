@@ -2,19 +2,21 @@
 ghost use Rattle.std.specs.Prelude.{◌≡◌};
 ghost use Rattle.gauge.specs.Obey.{obeyed};
 ghost use Rattle.load.specs.Load.{decoded_gauge};
+ghost use Rattle.refusals.specs.Refusal.{number_of};
 ghost use Rattle.saved.specs.Put.{parts_put};
 ghost use Rattle.moves.specs.Key as Spec;
 
-use command::command::{Command, Decision, Reset, Setting, decide};
+use command::command::{Command, Reset, Setting, decide};
 use load::parts::{
     loaded_charge, loaded_counters, loaded_flags, loaded_host, loaded_sample, loaded_settings,
     loaded_standby,
 };
-use refusals::NONE;
+use refusals::Refusal;
 use saved::parts::{put_charge, put_counters, put_flags, put_host, put_sample, put_standby};
 use standby::standby::standby_obeyed;
 
 // A setting: the sample, SI and the counters stay.
+#[tactic(auto, unfolding(gauge::specs::Obey::obeyed, sample::specs::Sample::sample_obeyed))]
 fn obey_setting(saved: &mut [u8], setting: Setting)
     ensures { saved.new ≡ Spec.setting_put (obeyed (Command.Setting setting) (decoded_gauge saved.old)) saved.old }
 {
@@ -31,6 +33,7 @@ fn obey_setting(saved: &mut [u8], setting: Setting)
 }
 
 // A reset.
+#[tactic(auto, unfolding(gauge::specs::Obey::obeyed))]
 fn obey_reset(saved: &mut [u8], reset: Reset)
     ensures { saved.new ≡ parts_put (obeyed (Command.Reset reset) (decoded_gauge saved.old)) saved.old }
 {
@@ -52,6 +55,7 @@ fn obey_reset(saved: &mut [u8], reset: Reset)
 }
 
 // By its kind: what a kind leaves alone is not loaded.
+#[tactic(auto, unfolding(crate::specs::Key::obeyed_put))]
 fn obey(saved: &mut [u8], command: Command)
     ensures { saved.new ≡ Spec.obeyed_put command (obeyed command (decoded_gauge saved.old)) saved.old }
 {
@@ -61,18 +65,14 @@ fn obey(saved: &mut [u8], command: Command)
     }
 }
 
-// 8 to 11, or 0 and the command obeyed. 14 is the caller's.
-pub fn press(saved: &mut [u8], key: u8) -> u32
-    ensures number { result ≡ Spec.key_number saved.old key }
+// 8 to 11, or the command obeyed. 14 is the caller's.
+#[tactic(auto, unfolding(crate::specs::Key::key_number, crate::specs::Key::key_bytes, crate::specs::Key::decided_put))]
+pub fn press(saved: &mut [u8], key: u8) -> Result<(), Refusal>
+    ensures number { number_of result ≡ Spec.key_number saved.old key }
     ensures bytes { saved.new ≡ Spec.key_bytes saved.old key }
 {
     let host = loaded_host(saved);
-    let decision = decide(key, host.mode, host.ar);
-    match decision {
-        Decision::Obey(command) => {
-            obey(saved, command);
-            NONE
-        }
-        Decision::Refused(number) => number,
-    }
+    let command = decide(key, host.mode, host.ar)?;
+    obey(saved, command);
+    Ok(())
 }

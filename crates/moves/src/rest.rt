@@ -4,16 +4,17 @@ ghost use Rattle.form.specs.Form.{newest};
 ghost use Rattle.gauge.specs.Calls.{rest_answer};
 ghost use Rattle.gauge.specs.Rest as Rest;
 ghost use Rattle.load.specs.Load.{decoded_gauge, form_fits};
+ghost use Rattle.refusals.specs.Refusal.{number_of};
 ghost use Rattle.saved.specs.Call as Spec;
 ghost use Rattle.saved.specs.Save.{saved_bytes};
 
 use configuration::configuration::sd;
 use gauge::calls::LONGEST_REST;
 use grains::leak::leak_rate;
-use load::load::{form_fits, gauge_accepted};
+use load::load::tested;
 use load::parts::{loaded_charge, loaded_counters, loaded_flags, loaded_sample, loaded_settings};
-use refusals::{NONE, REJECTED, REST_LENGTH, TEMPERATURE_RANGE};
-use sample::range::{temperature, temperature_in_range};
+use refusals::Refusal;
+use sample::range::temperature;
 use saved::parts::{put_charge, put_counters, put_flags, put_sample};
 
 fn rested(saved: &mut [u8], windows: u32, temperature: u16)
@@ -32,26 +33,19 @@ fn rested(saved: &mut [u8], windows: u32, temperature: u16)
     put_counters(saved, counters);
 }
 
-// 14, 6, 5, or 0 and the rest's gauge in the bytes.
-pub fn rest(saved: &mut [u8], windows: u32, t: i32) -> u32
-    ensures number { result ≡ Spec.call_number saved.old (λ g. rest_answer g windows t) }
+// 14, 6, 5, or the rest's gauge in the bytes.
+pub fn rest(saved: &mut [u8], windows: u32, t: i32) -> Result<(), Refusal>
+    ensures number { number_of result ≡ Spec.call_number saved.old (λ g. rest_answer g windows t) }
     ensures bytes { saved.new ≡ Spec.call_bytes saved.old (λ g. rest_answer g windows t) }
 {
-    if !form_fits(saved) {
-        return REJECTED;
-    }
-    if !gauge_accepted(saved) {
-        return REJECTED;
-    }
+    tested(saved)?;
     if windows == 0 {
-        return REST_LENGTH;
+        return Err(Refusal::RestLength);
     }
     if LONGEST_REST < windows {
-        return REST_LENGTH;
+        return Err(Refusal::RestLength);
     }
-    if !temperature_in_range(t) {
-        return TEMPERATURE_RANGE;
-    }
-    rested(saved, windows, temperature(t));
-    NONE
+    let temperature = temperature(t)?;
+    rested(saved, windows, temperature);
+    Ok(())
 }

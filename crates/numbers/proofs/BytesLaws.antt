@@ -1,17 +1,32 @@
 -- Bytes of a list from a place on: how many they are, how they are split and joined, and the number that they are. Assumes nothing.
 use mathlib.Core.List.{List, [], ◌∷◌, ◌++◌}
 use mathlib.Core.Path.{◌≡◌, refl, sym, ap, ◌∙◌}
-use Prim.Native.Nat.{ℕ, zero, suc, ◌+◌, ◌*◌, ◌≤◌}
-use native.Mathlib.Nat.{add-suc, add-zero, suc-add, zero-add}
+use Prim.Native.Nat.{ℕ, zero, suc, ◌+◌, ◌*◌, ◌≤◌, ◌<◌}
+use native.Mathlib.Nat.{add-suc, add-zero, le_of_suc-le-suc, not-suc-le-zero, suc-add, zero-add}
 use native.Mathlib.Omega.{arith}
 use lib.ListN.{drop, get_or, length, take, take-append-drop}
 use lib.Seq.{get_or-append-add, length-take-le}
+use Rattle.std.proofs.lemmas.List.{ext_get_or}
 use Rattle.numbers.specs.Little.{bytes_at, number_at}
-use Rattle.numbers.proofs.LittleLaws.{past_the_end, value_of}
+use Rattle.numbers.proofs.LittleLaws.{past_the_end, value_of, whole}
 
 pub bytes_length : (width place : ℕ) (bytes : List ℕ) → length (bytes_at width place bytes) ≡ width
 bytes_length zero place bytes = refl
 bytes_length (suc width) place bytes = ap suc (bytes_length width (suc place) bytes)
+
+pub byte_of : (width place : ℕ) (bytes : List ℕ) (i : ℕ) → i < width → get_or (bytes_at width place bytes) i 0 ≡ get_or bytes (place + i) 0
+byte_of zero place bytes i h = absurd (not-suc-le-zero h)
+byte_of (suc width) place bytes zero h = ap (λ (k : ℕ). get_or bytes k 0) (sym (add-zero place))
+byte_of (suc width) place bytes (suc i) h =
+    let p : suc place + i ≡ place + suc i = omega arith in
+    byte_of width (suc place) bytes i (le_of_suc-le-suc h) ∙ ap (λ (k : ℕ). get_or bytes k 0) p
+
+-- a list is those bytes, if it is as long and has each of them
+pub bytes_are : (width place : ℕ) (bytes found : List ℕ) → length found ≡ width → ((i : ℕ) → i < width → get_or found i 0 ≡ get_or bytes (place + i) 0)
+    → found ≡ bytes_at width place bytes
+bytes_are width place bytes found e h =
+    ext_get_or 0 found (bytes_at width place bytes) (e ∙ sym (bytes_length width place bytes))
+    (λ i l. let k : i < width = omega arith in h i k ∙ sym (byte_of width place bytes i k))
 
 pub bytes_split : (m n place : ℕ) (bytes : List ℕ) → bytes_at (m + n) place bytes ≡ bytes_at m place bytes ++ bytes_at n (place + m) bytes
 bytes_split zero n place bytes =
@@ -50,6 +65,12 @@ bytes_taken width bytes h =
 pub number_is : (width place : ℕ) (bytes : List ℕ) → number_at width place bytes ≡ value_of (bytes_at width place bytes)
 number_is zero place bytes = refl
 number_is (suc width) place bytes = ap (λ (n : ℕ). get_or bytes place 0 + 256 * n) (number_is width (suc place) bytes)
+
+-- the bytes taken out are the same number
+pub number_taken : (width place : ℕ) (bytes : List ℕ) → number_at width 0 (bytes_at width place bytes) ≡ number_at width place bytes
+number_taken width place bytes =
+    number_is width 0 (bytes_at width place bytes) ∙ ap value_of (whole width (bytes_at width place bytes) (bytes_length width place bytes))
+    ∙ sym (number_is width place bytes)
 
 -- zeros behind a number change nothing
 pub number_widened : (width : ℕ) (bytes : List ℕ) → length bytes ≤ width → number_at width 0 bytes ≡ value_of bytes

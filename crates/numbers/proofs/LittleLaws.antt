@@ -97,20 +97,3 @@ bytes_from (suc n) i s e =
 -- a list is its bytes from the first to the last
 pub whole : (width : ℕ) (bytes : List ℕ) → length bytes ≡ width → bytes_at width 0 bytes ≡ bytes
 whole width bytes e = bytes_from width 0 bytes (let h : 0 + width ≡ length bytes = omega arith in h)
-
--- ten elements read one by one are the ten bytes
-pub ten_are : (s : List ℕ) (p b0 b1 b2 b3 b4 b5 b6 b7 b8 b9 : ℕ)
-    → b0 ≡ get_or s p 0 → b1 ≡ get_or s (p + 1) 0 → b2 ≡ get_or s (p + 2) 0 → b3 ≡ get_or s (p + 3) 0 → b4 ≡ get_or s (p + 4) 0
-    → b5 ≡ get_or s (p + 5) 0 → b6 ≡ get_or s (p + 6) 0 → b7 ≡ get_or s (p + 7) 0 → b8 ≡ get_or s (p + 8) 0 → b9 ≡ get_or s (p + 9) 0
-    → (b0 ∷ b1 ∷ b2 ∷ b3 ∷ b4 ∷ b5 ∷ b6 ∷ b7 ∷ b8 ∷ b9 ∷ []) ≡ bytes_at 10 p s
-ten_are s p b0 b1 b2 b3 b4 b5 b6 b7 b8 b9 h0 h1 h2 h3 h4 h5 h6 h7 h8 h9 =
-    let e1 : p + 1 ≡ suc p = omega arith in
-    let e2 : p + 2 ≡ suc (suc p) = omega arith in
-    let e3 : p + 3 ≡ suc (suc (suc p)) = omega arith in
-    let e4 : p + 4 ≡ suc (suc (suc (suc p))) = omega arith in
-    let e5 : p + 5 ≡ suc (suc (suc (suc (suc p)))) = omega arith in
-    let e6 : p + 6 ≡ suc (suc (suc (suc (suc (suc p))))) = omega arith in
-    let e7 : p + 7 ≡ suc (suc (suc (suc (suc (suc (suc p)))))) = omega arith in
-    let e8 : p + 8 ≡ suc (suc (suc (suc (suc (suc (suc (suc p))))))) = omega arith in
-    let e9 : p + 9 ≡ suc (suc (suc (suc (suc (suc (suc (suc (suc p)))))))) = omega arith in
-    cc

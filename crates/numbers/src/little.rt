@@ -1,102 +1,153 @@
 // Numbers as bytes, low byte first. A byte past a slice's end reads as 0, so that every read has an answer.
-ghost use Rattle.std.specs.Prelude.{◌≡◌, ◌+◌, ◌*◌, ◌<◌, get_or};
+ghost use Rattle.std.specs.Prelude.{◌≡◌, ℕ, ◌+◌, ◌*◌, ◌≤◌, get_or};
+ghost use Rattle.std.proofs.Common.{rules};
 ghost use Rattle.numbers.specs.Little as Spec;
+
+// A number of N bytes.
+pub trait Little<const N: usize>: Copy {
+    ghost number: { Self → ℕ };
+
+    fn to_little(self) -> [u8; N]
+        ensures { result ≡ Spec.little N (number self) };
+
+    fn of_little(bytes: [u8; N]) -> Self
+        ensures { number result ≡ Spec.number_at N 0 bytes.entry };
+
+    // An array of N bytes is within what Rust lets an array be.
+    ghost narrow: { N ≤ 8 };
+}
+
+impl Little<1> for u8 {
+    ghost number = { λ n. n };
+
+    fn to_little(self) -> [u8; 1] {
+        u8::to_le_bytes(self)
+    }
+
+    fn of_little(bytes: [u8; 1]) -> u8
+        ensures { result ≡ Spec.number_at 1 0 bytes }
+    {
+        u8::from_le_bytes(bytes)
+    }
+
+    ghost narrow = { Prim.search rules };
+}
+
+impl Little<2> for u16 {
+    ghost number = { λ n. n };
+
+    fn to_little(self) -> [u8; 2] {
+        u16::to_le_bytes(self)
+    }
+
+    fn of_little(bytes: [u8; 2]) -> u16
+        ensures { result ≡ Spec.number_at 2 0 bytes }
+    {
+        u16::from_le_bytes(bytes)
+    }
+
+    ghost narrow = { Prim.search rules };
+}
+
+impl Little<4> for u32 {
+    ghost number = { λ n. n };
+
+    fn to_little(self) -> [u8; 4] {
+        u32::to_le_bytes(self)
+    }
+
+    fn of_little(bytes: [u8; 4]) -> u32
+        ensures { result ≡ Spec.number_at 4 0 bytes }
+    {
+        u32::from_le_bytes(bytes)
+    }
+
+    ghost narrow = { Prim.search rules };
+}
+
+impl Little<8> for u64 {
+    ghost number = { λ n. n };
+
+    fn to_little(self) -> [u8; 8] {
+        u64::to_le_bytes(self)
+    }
+
+    fn of_little(bytes: [u8; 8]) -> u64
+        ensures { result ≡ Spec.number_at 8 0 bytes }
+    {
+        u64::from_le_bytes(bytes)
+    }
+
+    ghost narrow = { Prim.search rules };
+}
 
 // The pair whose bytes are these.
 pub fn pair_of(low: u8, high: u8) -> u16
     ensures { result ≡ low + 256 * high }
 {
-    low as u16 + 256 * high as u16
+    u16::from_le_bytes([low, high])
 }
 
 pub fn two(value: u16) -> [u8; 2]
     ensures { result ≡ Spec.little 2 value }
 {
-    [(value % 256) as u8, (value / 256 % 256) as u8]
+    value.to_little()
 }
 
 pub fn eight(value: u64) -> [u8; 8]
     ensures { result ≡ Spec.little 8 value }
 {
-    let a = value / 256;
-    let b = a / 256;
-    let c = b / 256;
-    let d = c / 256;
-    let e = d / 256;
-    let f = e / 256;
-    let g = f / 256;
-    [
-        (value % 256) as u8,
-        (a % 256) as u8,
-        (b % 256) as u8,
-        (c % 256) as u8,
-        (d % 256) as u8,
-        (e % 256) as u8,
-        (f % 256) as u8,
-        (g % 256) as u8,
-    ]
+    value.to_little()
 }
 
 pub fn byte_at(bytes: &[u8], place: usize) -> u8
     ensures { result ≡ get_or bytes.now place 0 }
 {
-    if place < bytes.len() {
-        return bytes[place];
+    bytes.get(place).copied().unwrap_or(0)
+}
+
+// That many bytes from a place on.
+pub fn bytes_at<const N: usize>(bytes: &[u8], place: u16) -> [u8; N]
+    ensures { result ≡ Spec.bytes_at N place bytes.now }
+{
+    let mut found = [0; N];
+    for at in 0..N {
+        found[at] = byte_at(bytes, place as usize + at);
     }
-    0
+    found
 }
 
-fn two_from(bytes: &[u8], place: usize) -> u16
-    requires { place < 4_294_967_296 }
-    ensures { result ≡ Spec.number_at 2 place bytes.now }
+// The number at a place.
+pub fn number_at<const N: usize, T: Little<N>>(bytes: &[u8], place: u16) -> T
+    ensures { T.number result ≡ Spec.number_at N place bytes.now }
 {
-    pair_of(byte_at(bytes, place), byte_at(bytes, place + 1))
-}
-
-fn four_from(bytes: &[u8], place: usize) -> u32
-    requires { place < 4_294_967_290 }
-    ensures { result ≡ Spec.number_at 4 place bytes.now }
-{
-    two_from(bytes, place) as u32 + 65_536 * (two_from(bytes, place + 2) as u32)
+    T::of_little(bytes_at(bytes, place))
 }
 
 // The pair at a place.
 pub fn two_at(bytes: &[u8], place: u16) -> u16
     ensures { result ≡ Spec.number_at 2 place bytes.now }
 {
-    two_from(bytes, place as usize)
+    number_at(bytes, place)
 }
 
 // The four bytes at a place, as a number.
 pub fn four_at(bytes: &[u8], place: u16) -> u32
     ensures { result ≡ Spec.number_at 4 place bytes.now }
 {
-    four_from(bytes, place as usize)
+    number_at(bytes, place)
 }
 
 // The eight bytes at a place, as a number.
 pub fn eight_at(bytes: &[u8], place: u16) -> u64
     ensures { result ≡ Spec.number_at 8 place bytes.now }
 {
-    let low = four_from(bytes, place as usize) as u64;
-    low + 4_294_967_296 * (four_from(bytes, place as usize + 4) as u64)
+    number_at(bytes, place)
 }
 
 // The ten bytes at a place.
 pub fn ten_at(bytes: &[u8], place: u16) -> [u8; 10]
     ensures { result ≡ Spec.bytes_at 10 place bytes.now }
 {
-    let at = place as usize;
-    [
-        byte_at(bytes, at),
-        byte_at(bytes, at + 1),
-        byte_at(bytes, at + 2),
-        byte_at(bytes, at + 3),
-        byte_at(bytes, at + 4),
-        byte_at(bytes, at + 5),
-        byte_at(bytes, at + 6),
-        byte_at(bytes, at + 7),
-        byte_at(bytes, at + 8),
-        byte_at(bytes, at + 9),
-    ]
+    bytes_at(bytes, place)
 }

@@ -2,8 +2,9 @@
 ghost use Rattle.std.specs.Prelude.{◌≡◌};
 ghost use Rattle.numbers.specs.Signed as Spec;
 
-#[derive(Clone, Copy)]
+#[derive(Clone, Copy, Debug, PartialEq, Eq)]
 pub struct Signed {
+    // no Option: a number has a magnitude in either direction
     pub negative: bool,
     pub magnitude: u32,
 }
@@ -11,15 +12,9 @@ pub struct Signed {
 pub fn take_apart(number: i32) -> Signed
     ensures { result ≡ Spec.taken_apart number }
 {
-    if number < 0 {
-        return Signed {
-            negative: true,
-            magnitude: (-(number as i64)) as u32,
-        };
-    }
     Signed {
-        negative: false,
-        magnitude: number as u32,
+        negative: number < 0,
+        magnitude: number.unsigned_abs(),
     }
 }
 
@@ -27,8 +22,5 @@ pub fn take_apart(number: i32) -> Signed
 pub fn at_least_zero(number: i32) -> u32
     ensures { result ≡ Spec.at_least_zero number }
 {
-    if number < 0 {
-        return 0;
-    }
-    number as u32
+    number.max(0).cast_unsigned()
 }

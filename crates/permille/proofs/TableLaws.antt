@@ -6,12 +6,13 @@ use native.Mathlib.Omega.{arith}
 use lib.Dec.{leb}
 use lib.IntN.{ℤ, pos}
 use borrow.Author.Tests.{le-leb, leb-true, lt-leb}
+use Rattle.std.specs.Prelude.{None, Some}
 use Rattle.numbers.proofs.BoolLaws.{and_left, and_right}
 use Rattle.numbers.specs.Signed.{at_least_zero}
 use Rattle.sample.proofs.RangeLaws.{between_is}
 use Rattle.permille.specs.Claim.{TakesTheLower}
 use Rattle.permille.specs.Rule.{rule}
-use Rattle.permille.specs.Table.{entries, entry_of, entry_voltage, first_voltage, in_table, last_voltage, permille}
+use Rattle.permille.specs.Table.{entries, entry_of, entry_voltage, first_voltage, in_table, last_voltage, permille, permille_in}
 
 module _ (v : ℤ) where
   in_table_is : (leb first_voltage (at_least_zero v) && leb (at_least_zero v) last_voltage) ≡ in_table v
@@ -40,9 +41,13 @@ module _ (v : ℤ) where
     unfolding permille
     permille_is p = simp e p
 
-  pub no_permille : in_table v ≡ false → 0 ≡ permille v
-  unfolding permille
-  no_permille e = simp e
+    pub permille_in_is : {n : ℕ} → n ≡ rule (entry_voltage (entry_of (at_least_zero v))) → Some n ≡ permille_in v
+    unfolding permille_in
+    permille_in_is p = ap Some (permille_is p) ∙ sym (simp e)
+
+  pub no_permille_in : in_table v ≡ false → None ≡ permille_in v
+  unfolding permille_in
+  no_permille_in e = sym (simp e)
 
 -- ---- a voltage between two entries
 

@@ -1,6 +1,6 @@
 -- A4 of paper 02: "The permille comes from a stored table of 301 entries, 3,000 to 4,200 mV in steps of 4, a voltage between taking the lower."
 -- Definitions only; assumes nothing.
-use Rattle.std.specs.Prelude.{Bool, cond, ℕ, ◌+◌, ◌-◌, ◌*◌, ◌/◌, ℤ}
+use Rattle.std.specs.Prelude.{Bool, cond, Option, Some, None, ℕ, ◌+◌, ◌-◌, ◌*◌, ◌/◌, ℤ}
 use Rattle.numbers.specs.Signed.{at_least_zero}
 use Rattle.sample.specs.Range.{between}
 use Rattle.permille.specs.Rule.{rule}
@@ -34,3 +34,7 @@ entry_of v = (v - first_voltage) / voltage_step
 -- the rule at that entry; a voltage outside the table has no permille, and stands as 0
 unfoldable pub permille : ℤ → ℕ
 permille v = cond (in_table v) (rule (entry_voltage (entry_of (at_least_zero v)))) 0
+
+-- the permille of a voltage in the table
+unfoldable pub permille_in : ℤ → Option ℕ
+permille_in v = cond (in_table v) (Some (permille v)) None

@@ -9,11 +9,11 @@ use lib.ListN.{drop_of_length-le, length}
 use borrow.Author.Tests.{eq-eqb}
 use Rattle.command.specs.Command.{command_of, decide}
 use Rattle.command.specs.declared.command.Command.{Command}
-use Rattle.command.specs.declared.command.Decision.TheVariants.{Obey}
+use Rattle.std.specs.Prelude.{Ok}
 use Rattle.gauge.specs.Accepted.{accepted}
 use Rattle.gauge.specs.Calls.{write_answer, write_refusal, written}
 use Rattle.gauge.specs.Obey.{decided, obeyed}
-use Rattle.gauge.specs.declared.answer.Answer.{Answer}
+use Rattle.gauge.specs.Answer.{Answer}
 use Rattle.gauge.specs.declared.state.Gauge.{Gauge}
 use Rattle.refusals.specs.Refusal as Refusal
 use Rattle.registers.specs.Map.{register_count, registers_from}
@@ -25,7 +25,7 @@ use Rattle.preview.specs.Preview.{command_after, on_copy, preview_refusal, reply
 use Rattle.preview.proofs.PreviewLaws.{reads}
 
 -- the write on the copy
-obeys : (g : Gauge) (key : ℕ) (command : Command) → accepted g ≡ true → decide key g.host.mode g.host.ar ≡ Obey command
+obeys : (g : Gauge) (key : ℕ) (command : Command) → accepted g ≡ true → decide key g.host.mode g.host.ar ≡ Ok command
     → on_copy g key ≡ record { number = Refusal.none; gauge = obeyed command g }
 unfolding write_answer write_refusal written decided
 obeys g key command e d = simp (e, d)

@@ -2,7 +2,7 @@
 use Rattle.std.specs.Prelude.{true, List, ◌≡◌, ℕ, length}
 use Rattle.command.specs.Command.{command_number, decide}
 use Rattle.command.specs.declared.command.Command.{Command}
-use Rattle.command.specs.declared.command.Decision.TheVariants.{Obey}
+use Rattle.std.specs.Prelude.{Ok}
 use Rattle.gauge.specs.Accepted.{accepted}
 use Rattle.gauge.specs.Obey.{obeyed}
 use Rattle.gauge.specs.declared.state.Gauge.{Gauge}
@@ -19,5 +19,5 @@ pub record Shown (g : Gauge) (key : ℕ) (command : Command) (reply : List ℕ) 
 
 abbrev pub Shows : Type 0
 Shows =
-    (g : Gauge) (key : ℕ) (command : Command) → accepted g ≡ true → decide key g.host.mode g.host.ar ≡ Obey command
+    (g : Gauge) (key : ℕ) (command : Command) → accepted g ≡ true → decide key g.host.mode g.host.ar ≡ Ok command
     → (reply : List ℕ) (before : ℕ) → length reply ≡ register_count → Shown g key command reply before

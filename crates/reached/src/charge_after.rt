@@ -7,12 +7,13 @@ use charge::charge::Charge;
 use configuration::configuration::sd;
 use configuration::settings::Settings;
 use grains::leak::leak_rate;
-use sample::current::Current;
+use sample::sample::Sample;
 
 // The leak, and the sum of the counted current.
-pub fn summed(charge: Charge, settings: Settings, current: Current, temperature: u16) -> Charge
-    ensures { result ≡ Spec.summed (terms_of settings) current temperature charge }
+#[tactic(auto, unfolding(crate::specs::ChargeAfter::summed))]
+pub fn summed(charge: Charge, settings: Settings, sample: Sample) -> Charge
+    ensures { result ≡ Spec.summed (terms_of settings) sample.current sample.temperature charge }
 {
-    let rate = leak_rate(sd(settings), temperature);
-    charge.leaked(rate).moved(current)
+    let rate = leak_rate(sd(settings), sample.temperature);
+    charge.leaked(rate).moved(sample.current)
 }

@@ -7,6 +7,7 @@ use charge::charge::Charge;
 use flags::flags::Flags;
 
 // Full, if the window is full.
+#[tactic(auto, unfolding(crate::specs::Reached::filled_if))]
 pub fn filled_if(charge: Charge, full: bool) -> Charge
     ensures { result ≡ Spec.filled_if full charge }
 {
@@ -17,6 +18,7 @@ pub fn filled_if(charge: Charge, full: bool) -> Charge
 }
 
 // What the end-of-discharge voltages make of the charge.
+#[tactic(auto, unfolding(crate::specs::Reached::charge_ended))]
 pub fn charge_ended(charge: Charge, ending: Ending) -> Charge
     ensures { result ≡ Spec.charge_ended ending charge }
 {
@@ -29,6 +31,7 @@ pub fn charge_ended(charge: Charge, ending: Ending) -> Charge
 }
 
 // What the end-of-discharge voltages make of the flags.
+#[tactic(auto, unfolding(crate::specs::Reached::flags_ended))]
 pub fn flags_ended(flags: Flags, ending: Ending) -> Flags
     ensures { result ≡ Spec.flags_ended ending flags }
 {

@@ -5,7 +5,10 @@ use Prim.Native.Nat.{ℕ}
 use native.Mathlib.Omega.{arith}
 use lib.Dec.{eqb}
 use borrow.Author.Tests.{eqb-true}
-use Rattle.refusals.specs.Refusal.{none, or_else, rejected}
+use Rattle.refusals.specs.Refusal.{none, number, or_else, rejected}
+use Rattle.refusals.specs.declared.Refusal.{Refusal}
+use Rattle.refusals.specs.declared.Refusal.TheVariants.{ConfigurationLength, IlmdZero, CurrentRange, VoltageRange, TemperatureRange, RestLength, NotWritable}
+use Rattle.refusals.specs.declared.Refusal.TheVariants.{UnknownKey, NoCommandBit, NotCarried, WrtlmdZero, RegisterRange, BufferLength, Rejected, NotRested, OutsideTable}
 
 -- ---- neither refuses
 
@@ -55,3 +58,34 @@ module _ (l m n : ℕ) (refused : or_else l m ≡ none → ⊥) where
       go true true p q = absurd (refused (simp (p, eqb-true m none q)))
       go true false p q = simp q
       go false u p q = refl
+
+-- ---- a refusal's number is not "success"
+
+pub number_above : (refusal : Refusal) → number refusal ≡ none → ⊥
+number_above ConfigurationLength e = omega arith
+number_above IlmdZero e = omega arith
+number_above CurrentRange e = omega arith
+number_above VoltageRange e = omega arith
+number_above TemperatureRange e = omega arith
+number_above RestLength e = omega arith
+number_above NotWritable e = omega arith
+number_above UnknownKey e = omega arith
+number_above NoCommandBit e = omega arith
+number_above NotCarried e = omega arith
+number_above WrtlmdZero e = omega arith
+number_above RegisterRange e = omega arith
+number_above BufferLength e = omega arith
+number_above Rejected e = omega arith
+number_above NotRested e = omega arith
+number_above OutsideTable e = omega arith
+
+-- what refuses first gives the number, and what does not leaves it to the next
+pub refused_first : (l m : ℕ) (refusal : Refusal) → l ≡ number refusal → or_else l m ≡ number refusal
+refused_first l m refusal e = go (eqb l none) refl
+  where
+    go : (t : Bool) → eqb l none ≡ t → cond t m l ≡ number refusal
+    go true p = absurd (number_above refusal (sym e ∙ eqb-true l none p))
+    go false p = e
+
+pub none_first : (l m : ℕ) → l ≡ none → or_else l m ≡ m
+none_first l m z = simp z

@@ -15,7 +15,7 @@ use Rattle.form.specs.Signed.{current_of}
 use Rattle.form.proofs.SignedLaws.{current_back}
 use Rattle.gauge.specs.Accepted.{accepted}
 use Rattle.gauge.specs.Fits.{Fits}
-use Rattle.gauge.specs.declared.answer.Answer.{Answer}
+use Rattle.gauge.specs.Answer.{Answer}
 use Rattle.gauge.specs.declared.state.Gauge.{Gauge}
 use Rattle.gauge.proofs.AcceptedLaws.{sound}
 use Rattle.load.specs.Fields.{flags_of_gauge, number_in}
@@ -73,33 +73,27 @@ saved_loaded bytes small f = sym (ap saved_bytes (newest_loaded bytes)) ∙ save
 -- ---- in the calls' terms
 
 module _ (g : Gauge) (b : List ℕ) (l : length b ≡ saved_length) where
-  -- a buffer of the form's length leaves the test of the gauge alone
-  pub reloaded_refused : {n : ℕ} → n ≡ save_refusal g (length b) → answer n g ≡ reloaded_answer g
-  unfolding save_refusal reloaded_answer
-  reloaded_refused e = ap (λ (n : ℕ). answer n g) (e ∙ simp (eq-eqb (length b) saved_length l))
-
-  pub reloaded_done : {n : ℕ} {after : List ℕ} {r : Answer} → FieldsFit g → n ≡ save_refusal g (length b) → n ≡ Refusal.none
-      → after ≡ buffer_after g b → r ≡ load_answer after → r ≡ reloaded_answer g
+  pub reloaded_done : {after : List ℕ} → FieldsFit g → Refusal.none ≡ save_refusal g (length b) → after ≡ buffer_after g b
+      → load_answer after ≡ reloaded_answer g
   unfolding save_refusal reloaded_answer buffer_after
-  reloaded_done {n} {after} {r} f e z p q = go (accepted g) refl
+  reloaded_done {after} f e p = go (accepted g) refl
     where
-      go : (t : Bool) → accepted g ≡ t → r ≡ answer (cond t Refusal.none Refusal.rejected) g
+      go : (t : Bool) → accepted g ≡ t → load_answer after ≡ answer (cond t Refusal.none Refusal.rejected) g
       go true a =
           let s : after ≡ saved_bytes g = p ∙ simp (a, eq-eqb (length b) saved_length l) in
-          q ∙ ap load_answer s ∙ newest_loads g ∙ load_back g f a
+          ap load_answer s ∙ newest_loads g ∙ load_back g f a
       go false a =
-          let r14 : n ≡ 14 = e ∙ simp a in
+          let r14 : ◌≡◌ {A = ℕ} 0 14 = e ∙ simp a in
           let no : ⊥ = omega arith in
           absurd no
 
-pub resaved_done : (bytes : List ℕ) → ((k : ℕ) → get_or bytes k 0 < 256) → (answered : Answer) {n : ℕ} {after : List ℕ} → answered ≡ answer_in newest bytes
-    → answered.number ≡ Refusal.none → n ≡ save_refusal answered.gauge (length bytes) → after ≡ buffer_after answered.gauge bytes
-    → (n ≡ (answer_in newest bytes).number) × (after ≡ bytes)
+pub resaved_done : (bytes : List ℕ) → ((k : ℕ) → get_or bytes k 0 < 256) → {gauge : Gauge} {n : ℕ} {after : List ℕ}
+    → (answer_in newest bytes).number ≡ Refusal.none → gauge ≡ (answer_in newest bytes).gauge → n ≡ save_refusal gauge (length bytes)
+    → after ≡ buffer_after gauge bytes → (n ≡ (answer_in newest bytes).number) × (after ≡ bytes)
 unfolding save_refusal buffer_after
-resaved_done bytes small answered {n} {after} e z p q =
-    let zero = ap (λ (x : Answer). x.number) (sym e) ∙ z in
+resaved_done bytes small zero e p q =
     let w = loads newest bytes zero in
-    let g = ap (λ (x : Answer). x.gauge) e ∙ w.gauge in
+    let g = e ∙ w.gauge in
     let a = ap accepted g ∙ w.accepted in
     let l = eq-eqb (length bytes) saved_length (form_length newest bytes w.fits) in
     (p ∙ simp (a, l, zero), q ∙ simp (a, l) (ap saved_bytes g ∙ saved_loaded bytes small w.fits))

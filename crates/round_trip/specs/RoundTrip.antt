@@ -1,6 +1,6 @@
 -- Both round trips of the saved bytes. Definitions only; assumes nothing.
 use Rattle.gauge.specs.Answer.{unless_rejected}
-use Rattle.gauge.specs.declared.answer.Answer.{Answer}
+use Rattle.gauge.specs.Answer.{Answer}
 use Rattle.gauge.specs.declared.state.Gauge.{Gauge}
 use Rattle.refusals.specs.Refusal as Refusal
 

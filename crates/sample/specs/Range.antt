@@ -1,5 +1,5 @@
 -- "A window" of paper 01, its input as handed in, and the refusals 3, 4 and 5. Definitions only; assumes nothing.
-use Rattle.std.specs.Prelude.{Bool, not, ◌&&◌, cond, ℕ, leb, ltb, ℤ}
+use Rattle.std.specs.Prelude.{Bool, not, ◌&&◌, cond, ℕ, leb, ltb, ℤ, Option, Some, None}
 use Rattle.numbers.specs.Signed.{negative, magnitude}
 use Rattle.refusals.specs.Refusal as Refusal
 use Rattle.sample.specs.Current.{no_current}
@@ -45,6 +45,10 @@ current a = cond (current_in_range a) (current_of a) no_current
 
 unfoldable pub value_between : ℕ → ℕ → ℤ → ℕ
 value_between least most x = cond (between least most x) (magnitude x) 0
+
+-- the value, if the number is in range
+abbrev pub read_between : ℕ → ℕ → ℤ → Option ℕ
+read_between least most x = cond (between least most x) (Some (value_between least most x)) None
 
 abbrev pub voltage : ℤ → ℕ
 voltage v = value_between least_voltage most_voltage v

@@ -2,9 +2,9 @@
 ghost use Rattle.std.specs.Prelude.{◌≡◌};
 ghost use Rattle.sample.specs.Current as Spec;
 
-#[derive(Clone, Copy)]
+#[derive(Clone, Copy, Debug, PartialEq, Eq)]
 pub struct Current {
-    // above 0
+    // above 0; no Option: a current has a magnitude in either direction
     pub charging: bool,
     pub magnitude: u16,
 }
@@ -21,6 +21,7 @@ impl Current {
     }
 
     // The counted current c: the filter by DMF.
+    #[tactic(auto, unfolding(crate::specs::Current::counted))]
     pub fn counted(self, dmf: u8) -> Current
         ensures { result ≡ Spec.counted dmf self }
     {
@@ -31,6 +32,7 @@ impl Current {
     }
 
     // c where c > 0, else 0.
+    #[tactic(auto, unfolding(crate::specs::Current::charge_current))]
     pub fn charge_current(self) -> u16
         ensures { result ≡ Spec.charge_current self }
     {
@@ -41,6 +43,7 @@ impl Current {
     }
 
     // |c| where c < 0, else 0.
+    #[tactic(auto, unfolding(crate::specs::Current::discharge_current))]
     pub fn discharge_current(self) -> u16
         ensures { result ≡ Spec.discharge_current self }
     {

@@ -9,7 +9,7 @@ use crate::limits::{
 };
 use command::command::Command;
 
-#[derive(Clone, Copy)]
+#[derive(Clone, Copy, Debug, PartialEq, Eq)]
 pub struct Sample {
     // c by direction, CHGS, and magnitude, IAV
     pub current: Current,
@@ -19,6 +19,7 @@ pub struct Sample {
     pub temperature: u16,
 }
 
+#[tactic(auto, unfolding(crate::specs::Sample::current_accepted))]
 fn current_accepted(dmf: u8, current: Current) -> bool
     ensures { result ≡ Spec.current_accepted dmf current }
 {
@@ -34,6 +35,7 @@ fn current_accepted(dmf: u8, current: Current) -> bool
     false
 }
 
+#[tactic(auto, unfolding(crate::specs::Limits::zero_or_within))]
 fn zero_or_within(least: u16, most: u16, value: u16) -> bool
     ensures { result ≡ zero_or_within least most value }
 {
@@ -48,6 +50,7 @@ fn zero_or_within(least: u16, most: u16, value: u16) -> bool
 
 impl Sample {
     // Nothing measured yet: opening.
+    #[tactic(auto, unfolding(crate::specs::Sample::no_sample))]
     pub fn none() -> Sample
         ensures { result ≡ Spec.no_sample }
     {
@@ -60,6 +63,7 @@ impl Sample {
     }
 
     // Settings leave the sample; resets put it as opened.
+    #[tactic(auto, unfolding(crate::specs::Sample::sample_obeyed))]
     pub fn obeyed(self, command: Command) -> Sample
         ensures { result ≡ Spec.sample_obeyed command self }
     {
@@ -70,6 +74,7 @@ impl Sample {
     }
 
     // No current flows in a rest; VOLT stays.
+    #[tactic(auto, unfolding(crate::specs::Sample::sample_rested))]
     pub fn rested(mut self, temperature: u16) -> Sample
         ensures { result ≡ Spec.sample_rested temperature self }
     {
@@ -80,6 +85,7 @@ impl Sample {
     }
 
     // What 14 asks of a sample.
+    #[tactic(auto, unfolding(crate::specs::Sample::sample_accepted))]
     pub fn accepted(self, dmf: u8) -> bool
         ensures { result ≡ Spec.sample_accepted dmf self }
     {

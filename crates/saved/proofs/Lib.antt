@@ -1,4 +1,3 @@
-pub mod CallLaws
 pub mod FormLaws
 pub mod PutLaws
 pub mod SaveLaws

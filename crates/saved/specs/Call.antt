@@ -2,7 +2,7 @@
 -- saved in the same bytes." Definitions only; assumes nothing.
 use Rattle.std.specs.Prelude.{cond, List, ℕ, eqb}
 use Rattle.form.specs.Form.{newest}
-use Rattle.gauge.specs.declared.answer.Answer.{Answer}
+use Rattle.gauge.specs.Answer.{Answer}
 use Rattle.gauge.specs.declared.state.Gauge.{Gauge}
 use Rattle.load.specs.Load.{answer_in}
 use Rattle.refusals.specs.Refusal as Refusal

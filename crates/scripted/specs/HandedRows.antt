@@ -4,7 +4,7 @@ use Rattle.std.specs.Prelude.{List, [], ◌∷◌, ◌++◌, ◌≡◌, ℕ, pos
 use Rattle.drive.specs.Update.{Step, bytes_after_steps, calls_of, make, start}
 use Rattle.gauge.specs.Calls.{window_answer}
 use Rattle.gauge.specs.Opening.{open_answer}
-use Rattle.gauge.specs.declared.answer.Answer.{Answer}
+use Rattle.gauge.specs.Answer.{Answer}
 use Rattle.gauge.specs.declared.state.Gauge.{Gauge}
 use Rattle.handset.specs.Calls.{convert_bytes, convert_number, estimate_counts, estimate_distance, estimate_number, open_bytes, open_number}
 use Rattle.saved.specs.Call.{call_bytes, call_number}

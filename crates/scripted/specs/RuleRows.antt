@@ -6,7 +6,8 @@ use Rattle.charge.specs.Step.{leaked_at_once}
 use Rattle.charge.specs.declared.charge.Charge.{Charge}
 use Rattle.command.specs.Command.{command_of, highest_command_bit}
 use Rattle.command.specs.declared.command.Command.TheVariants.{Reset}
-use Rattle.command.specs.declared.command.Decision.TheVariants as Decision
+use Rattle.refusals.specs.declared.Refusal.TheVariants.{NoCommandBit}
+use Rattle.std.specs.Prelude.{Err}
 use Rattle.command.specs.declared.command.Reset.TheVariants.{Prst}
 use Rattle.compensation.specs.Unaged.{dcmp_unaged}
 use Rattle.configuration.specs.Settings.{opened_settings}
@@ -138,7 +139,7 @@ pub record RuleRows : Type 0 where
   pub store_high : stored 3 0x56 (record { mode = 0xDA; ar = 0x1278 }) ≡ record { mode = 0xDA; ar = 0x5678 }
   -- no command bit, and no command
   pub no_bit_lem : highest_command_bit 0xC4 ≡ 8
-  pub no_command_lem : command_of (Decision.Refused 9) ≡ 0
+  pub no_command_lem : command_of (Err NoCommandBit) ≡ 0
   -- a key at CTRL of an accepted gauge: MODE 0xFF obeys WRTNAC of AR 700; MODE 0x00 is 9
   pub key_0 : (key_answer (started every_set) 0xA9).number ≡ 0
   pub key_held : (key_answer (started every_set) 0xA9).gauge.charge.held ≡ 94_500_000_000

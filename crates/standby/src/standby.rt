@@ -15,6 +15,7 @@ pub fn opened_standby(settings: Settings) -> u16
 }
 
 // Settings leave it; resets put it as opened.
+#[tactic(auto, unfolding(crate::specs::Standby::standby_obeyed))]
 pub fn standby_obeyed(command: Command, settings: Settings, standby: u16) -> u16
     ensures { result ≡ Spec.standby_obeyed command (terms_of settings).s0 standby }
 {
@@ -25,19 +26,19 @@ pub fn standby_obeyed(command: Command, settings: Settings, standby: u16) -> u16
 }
 
 // Averaged over light loads.
+#[tactic(auto, unfolding(crate::specs::Standby::averaged))]
 pub fn averaged(settings: Settings, standby: u16, discharge: u16) -> u16
     ensures { result ≡ Spec.averaged (terms_of settings).s0 standby discharge }
 {
-    if discharge == 0 {
-        return standby;
+    if discharge == 0 || 2 * s0(settings) < discharge {
+        standby
+    } else {
+        (15 * (standby as u32) / 16 + discharge as u32) as u16
     }
-    if 2 * s0(settings) < discharge {
-        return standby;
-    }
-    (15 * (standby as u32) / 16 + discharge as u32) as u16
 }
 
 // What 14 asks of it.
+#[tactic(auto, unfolding(crate::specs::Standby::standby_accepted))]
 pub fn standby_accepted(settings: Settings, standby: u16) -> bool
     ensures { result ≡ Spec.standby_accepted (terms_of settings).s0 standby }
 {
@@ -45,8 +46,9 @@ pub fn standby_accepted(settings: Settings, standby: u16) -> bool
 }
 
 // What the register shows, units.
+#[tactic(auto, unfolding(crate::specs::Standby::shown))]
 pub fn shown(standby: u16) -> u16
     ensures { result ≡ Spec.shown standby }
 {
-    ((standby as u32 + 15) / 16) as u16
+    standby.div_ceil(16)
 }

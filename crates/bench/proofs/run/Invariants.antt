@@ -13,4 +13,4 @@ invariant-loop g l =
     IfSome (g.R.Read.remaining l.initial.input) (λ all. (rest : List ℕ)
     × (g.R.Read.remaining l.input ≡ Some rest)
     × Written (g.W.Write.contents l.initial.output) (g.W.Write.contents l.output) l.initial.bench all
-    (record { bench = l.bench; more = true; outcome = Ok tt }) rest)
+    (record { bench = l.bench; more = Ok true }) rest)

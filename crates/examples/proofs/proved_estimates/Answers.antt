@@ -21,7 +21,7 @@ use Rattle.grains.specs.Learning.{learned}
 use Rattle.grains.specs.Run.{drained, run_accepted, unless_passed}
 use Rattle.host.specs.Host.{commanded, commands_cleared, full_if, host_obeyed, init_cleared, opened_host, stored}
 use Rattle.permille.specs.Rule.{rule}
-use Rattle.permille.specs.Table.{in_table, permille}
+use Rattle.permille.specs.Table.{in_table, permille, permille_in}
 use Rattle.reached.specs.ChargeAfter.{charge_after, reached_in, summed}
 use Rattle.reached.specs.Ending.{ending_of, may_teach}
 use Rattle.reached.specs.Full.{is_full}
@@ -39,11 +39,14 @@ unfolding charge_accepted emptied filled held_moved leaked moved opened_charge r
     opened_counters cycles_accepted cycles_moved cyct_after drain_with no_cycles distance_after distance_from estimate_after estimate_refusal estimated at_edv1
     at_edvf at_taught cleared_if flags_obeyed accepted rest_answer stored_at window_answer write_answer write_refusal written decided obeyed open_answer
     open_refusal opened rest window band leak leak_rate rises_up_to weight learned drained run_accepted unless_passed commanded commands_cleared full_if
-    host_obeyed init_cleared opened_host stored rule in_table permille charge_after reached_in summed ending_of may_teach is_full charge_ended charge_reached
+    host_obeyed init_cleared opened_host stored rule in_table permille permille_in charge_after reached_in summed ending_of may_teach is_full charge_ended charge_reached
     filled_if flags_ended reached_by charge_current counted discharge_current zero_or_within between current_in_range value_between current_accepted no_sample
     sample_accepted sample_obeyed sample_rested averaged standby_accepted standby_obeyed
 returns c =
     record {
+      in_3600 = refl;
+      in_2999 = refl;
+      in_4201 = refl;
       at_3000 = refl;
       at_3400 = refl;
       at_3600 = refl;

@@ -5,6 +5,6 @@ use Rattle.bench_output.proofs.put.put_registers.Goals as goal
 
 pub returns : goal.returns
 returns c =
-    let f = c.ranges in
-    registers_put _ _ _ _ f.nac f.lmd f.rsoc f.flags _ _ _ _ _ _ _ _ _ _ c.requires
+    registers_put _ _ _ _ c.from.type_inv c.from-2.type_inv c.from-3.type_inv c.from-4.type_inv _ _ _ _ _ _ _ _ _ _ c.requires
     c.put_number-second.ensures c.put_number-third.ensures c.put_number-fourth.ensures c.put_number.ensures
+    _ _ _ _ c.from.ensures c.from-2.ensures c.from-3.ensures c.from-4.ensures

@@ -3,11 +3,10 @@ use mathlib.Core.Path.{sym, ap, ◌∙◌}
 use Rattle.command.specs.Command.{command_of}
 use Rattle.command.proofs.command.command_of.Goals as goal
 
-pub returns-in-Obey : goal.returns-in-Obey
+pub returns-in-Ok : goal.returns-in-Ok
 unfolding command_of
-returns-in-Obey c =
-    c.command_number.ensures ∙ ap command_of (sym c.in-Obey.is ∙ c.decide-decision.ensures)
+returns-in-Ok c = c.number.ensures ∙ ap command_of (sym c.in-Ok.is ∙ c.decide.ensures)
 
-pub returns-in-Refused : goal.returns-in-Refused
+pub returns-in-Err : goal.returns-in-Err
 unfolding command_of
-returns-in-Refused c = ap command_of (sym c.in-Refused.is ∙ c.decide-decision.ensures)
+returns-in-Err c = ap command_of (sym c.in-Err.is ∙ c.decide.ensures)

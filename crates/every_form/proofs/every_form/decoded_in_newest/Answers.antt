@@ -2,10 +2,7 @@
 use Rattle.every_form.proofs.EveryFormLaws.{decoded_reads}
 use Rattle.every_form.proofs.every_form.decoded_in_newest.Goals as goal
 
-pub in_newest-whole-requires : goal.in_newest-whole-requires
-in_newest-whole-requires c = c.requires
-
 pub returns : goal.returns
 returns c =
     let a = c.args in
-    decoded_reads a.first a.bytes.now c.in_newest-whole.ensures c.decoded.ensures
+    decoded_reads a.form a.bytes.now c.in_newest-whole.ensures c.decoded.ensures

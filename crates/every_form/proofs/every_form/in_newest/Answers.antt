@@ -1,40 +1,19 @@
 -- Each copy fills the front of the zeros. Assumes nothing.
-use borrow.Author.Rules.{rules}
-use mathlib.Core.Path.{◌≡◌, ap}
-use native.Mathlib.Omega.{arith}
-use lib.ListN.{length}
-use Rattle.form.specs.Form.{form3, form4, length_of, saved_length}
-use Rattle.every_form.proofs.CopiedLaws.{all_taken, form_2_copied, form_3_copied, form_4_placed, newest_copied, shortest_left}
+use mathlib.Core.Path.{◌∙◌}
+use Rattle.every_form.proofs.CopiedLaws.{fourth_copied, newest_copied, shortest_copied, third_copied}
 use Rattle.every_form.proofs.every_form.in_newest.Goals as goal
-use Rattle.every_form.proofs.every_form.in_newest.Goals.{Start}
 
--- the bytes of a form of the shortest length
-left : (c : Start) → (length c.args.bytes.now ≡ saved_length → ⊥) → (length c.args.bytes.now ≡ length_of form4.fields → ⊥)
-    → (length c.args.bytes.now ≡ length_of form3.fields → ⊥) → length c.args.bytes.now ≡ 41
-left c = shortest_left c.args.first c.requires
+pub returns-in-One : goal.returns-in-One
+returns-in-One c = let a = c.args in shortest_copied a.form a.bytes.now c.requires c.in-One.is (c.copy_from_slice.ensures.after ∙ c.split_at.ensures.front)
 
-pub returns-then-bytes : goal.returns-then-bytes
-returns-then-bytes c =
-    newest_copied c.args.bytes.now c.args.first c.requires c.if-bytes.true (c.put_front.ensures.fits (search rules))
+pub returns-in-Three : goal.returns-in-Three
+returns-in-Three c = let a = c.args in third_copied a.form a.bytes.now c.requires c.in-Three.is (c.copy_from_slice-in-Three.ensures.after ∙ c.split_at-in-Three.ensures.front)
 
-pub form_4_in_newest-requires : goal.form_4_in_newest-requires
-form_4_in_newest-requires c = c.if-bytes-2.true
+pub returns-in-Four : goal.returns-in-Four
+returns-in-Four c =
+    let a = c.args in
+    fourth_copied a.form a.bytes.now c.requires c.in-Four.is (c.copy_from_slice-in-Four.ensures.after ∙ c.split_at-in-Four.ensures.front)
+    c.copy_from_slice-in-Four-2.ensures.after
 
-pub returns-then-bytes-2 : goal.returns-then-bytes-2
-returns-then-bytes-2 c =
-    form_4_placed c.args.bytes.now c.args.first c.requires c.if-bytes-2.true c.form_4_in_newest.ensures
-
-pub returns-then-bytes-3 : goal.returns-then-bytes-3
-returns-then-bytes-3 c =
-    form_3_copied c.args.bytes.now c.args.first c.requires c.if-bytes-3.true (c.put_front-then-bytes-3.ensures.fits (search rules))
-
-pub slice_bounds-put_front-end-2 : goal.slice_bounds-put_front-end-2
-slice_bounds-put_front-end-2 c =
-    let l = left (goal.at.slice_bounds-put_front-end-2 c).Start c.if-bytes.false c.if-bytes-2.false c.if-bytes-3.false in
-    omega (arith, ap length (all_taken c.args.bytes.now l))
-
-pub returns : goal.returns
-returns c =
-    let bytes = c.args.bytes.now in
-    let l = left (goal.at.returns c).Start c.if-bytes.false c.if-bytes-2.false c.if-bytes-3.false in
-    form_2_copied bytes c.args.first c.requires l (all_taken bytes l) (c.put_front-2.ensures.fits (omega (arith, ap length (all_taken bytes l))))
+pub returns-in-Newest : goal.returns-in-Newest
+returns-in-Newest c = let a = c.args in newest_copied a.form a.bytes.now c.requires c.in-Newest.is (c.copy_from_slice-in-Newest.ensures.after ∙ c.split_at-in-Newest.ensures.front)

@@ -1,9 +1,16 @@
 -- What is kept of the load's answer. Assumes nothing.
-use Rattle.handset.proofs.CallLaws.{converts}
+use mathlib.Core.Path.{◌∙◌}
+use Rattle.every_form.specs.EveryForm.{load_answer}
+use Rattle.handset.proofs.CallLaws.{kept_is}
+use Rattle.handset.specs.Calls.{convert_bytes, convert_number}
+use Rattle.handset.specs.Keep.{kept_number}
 use Rattle.handset.proofs.calls.gauge_convert.Goals as goal
 
 pub returns : goal.returns
+unfolding convert_bytes convert_number kept_number
 returns c =
-    let a = c.args in
-    let p = converts a.old.now a.saved.now c.load-answer.ensures c.keep.ensures.number c.keep.ensures.bytes in
-    record { number = p.0; bytes = p.1 }
+    let answer = load_answer c.args.old.now in
+    record {
+      number = c.keep.ensures.number answer c.load.ensures;
+      bytes = c.keep.ensures.bytes answer c.load.ensures ∙ kept_is answer c.args.saved.now;
+    }

@@ -1,9 +1,15 @@
 -- What is kept of the opening's answer. Assumes nothing.
-use Rattle.handset.proofs.CallLaws.{opens}
+use mathlib.Core.Path.{◌∙◌}
+use Rattle.gauge.specs.Answer.{Answer}
+use Rattle.gauge.specs.Opening.{open_refusal, opened}
+use Rattle.handset.proofs.CallLaws.{kept_is}
+use Rattle.handset.specs.Calls.{open_bytes, open_number}
+use Rattle.handset.specs.Keep.{kept_number}
 use Rattle.handset.proofs.calls.gauge_open.Goals as goal
 
 pub returns : goal.returns
+unfolding open_bytes open_number kept_number
 returns c =
     let a = c.args in
-    let p = opens a.configuration.now a.saved.now c.open-answer.ensures c.keep.ensures.number c.keep.ensures.bytes in
-    record { number = p.0; bytes = p.1 }
+    let answer : Answer = record { number = open_refusal a.configuration.now; gauge = opened a.configuration.now } in
+    record { number = c.keep.ensures.number answer c.open.ensures; bytes = c.keep.ensures.bytes answer c.open.ensures ∙ kept_is answer a.saved.now }

@@ -1,17 +1,9 @@
--- The invariant: the digits of the rest, stored up to i, complete the number's. The measure is the rest. Assumes nothing.
-use Prim.Native.Nat.{◌+◌, ◌<◌}
+-- The invariant: the last digits of the rest, before those that stand already, are the number's. Assumes nothing.
+use mathlib.Core.List.{◌++◌}
 use mathlib.Core.Path.{◌≡◌}
-use lib.ListN.{length}
-use lib.Seq.{sets}
-use Rattle.lines.specs.Decimal.{decimal}
+use lib.ListN.{drop, length}
+use Rattle.lines.proofs.DecimalLaws.{last_digits}
 use Rattle.lines.proofs.put.put_digits.Given as goal
 
-abbrev pub invariant-loop-rest : goal.invariant-loop-rest
-invariant-loop-rest l =
-    (l.i + 1 ≡ l.at + length (decimal l.rest))
-    × (l.i < length l.initial.out)
-    × (length l.out ≡ length l.initial.out)
-    × (sets l.out l.at (decimal l.rest) ≡ sets l.initial.out l.at (decimal l.number))
-
-abbrev pub decreases-loop-rest : goal.decreases-loop-rest
-decreases-loop-rest l = l.rest
+abbrev pub invariant-loop-i : goal.invariant-loop-i
+invariant-loop-i l = last_digits l.i l.rest ++ drop l.i l.slots ≡ last_digits (length l.slots) l.number

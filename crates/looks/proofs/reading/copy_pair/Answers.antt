@@ -1,19 +1,15 @@
--- At an odd address the high byte, at an even one the low byte or both. Assumes nothing.
-use Rattle.looks.proofs.CopyLaws.{both_stored, high_stored, low_stored, two_long}
+-- At an address that is not odd the pair's bytes are stored from the low one on. Assumes nothing.
+use Rattle.std.proofs.Common.{arith, length, ◌≡◌, ◌%◌}
+use Rattle.looks.proofs.CopyLaws.{one_stored, two_stored}
 use Rattle.looks.proofs.reading.copy_pair.Goals as goal
-
-pub returns-then-address-eq1 : goal.returns-then-address-eq1
-returns-then-address-eq1 c =
-    high_stored c.args.pair _ c.args.part.now c.ranges.pair.fits c.requires.0 c.requires.1 c.if-address-eq1.true
 
 pub returns-then-part-eq1 : goal.returns-then-part-eq1
 returns-then-part-eq1 c =
-    low_stored c.args.pair _ c.args.part.now c.ranges.pair.fits c.requires.0 c.requires.1 c.if-address-eq1.false c.if-part-eq1.true
+    let even : c.args.address % 2 ≡ 0 = omega arith in
+    rw (even, c.if-part-eq1.true, c.to_le_bytes.ensures) (one_stored _ _ c.if-part-eq1.true)
 
-pub bounds-part-1 : goal.bounds-part-1
-bounds-part-1 c =
-    two_long c.args.pair _ c.args.part.now c.ranges.pair.fits c.requires.0 c.requires.1 c.if-part-eq1.false
-
-pub returns : goal.returns
-returns c =
-    both_stored c.args.pair _ c.args.part.now c.ranges.pair.fits c.requires.0 c.requires.1 c.if-address-eq1.false c.if-part-eq1.false
+pub returns-else-part-eq1 : goal.returns-else-part-eq1
+returns-else-part-eq1 c =
+    let even : c.args.address % 2 ≡ 0 = omega arith in
+    let two : length c.args.part.now ≡ 2 = omega arith in
+    rw (even, two, c.to_le_bytes.ensures) (two_stored _ _ _ two)

@@ -1,13 +1,16 @@
 -- A rejected gauge is answered as such; the bytes of any other load as it. Assumes nothing.
-use mathlib.Core.Path.{◌≡◌, refl}
+use mathlib.Core.Path.{◌≡◌, refl, sym}
 use native.Mathlib.Omega.{arith}
 use lib.ListN.{length, replicate}
 use Rattle.flags.proofs.FlagsByteLaws.{byte_fits}
 use Rattle.form.specs.Form.{saved_length}
 use Rattle.form.proofs.SignedLaws.{pair_fits}
+use Rattle.std.proofs.lemmas.Result.{err_from_is_err_and}
 use Rattle.load.specs.Fields.{bytes_in, number_in}
-use Rattle.round_trip.proofs.RoundTripLaws.{reloaded_done, reloaded_refused}
+use Rattle.round_trip.proofs.RoundTripLaws.{reloaded_done}
 use Rattle.round_trip.proofs.FieldsLaws.{FieldsFit}
+use Rattle.round_trip.specs.RoundTrip.{reloaded_answer}
+use Rattle.saved.specs.Save.{save_refusal}
 use borrow.Author.Rules.{rules}
 use Rattle.round_trip.proofs.round_trip.reloaded.Goals as goal
 use Rattle.round_trip.proofs.round_trip.reloaded.Goals.{Start}
@@ -21,10 +24,13 @@ fits c =
     let ten : length g.settings.bytes ≡ 10 = search rules in
     omega arith
 
-pub returns-then-number-ne-NONE : goal.returns-then-number-ne-NONE
-returns-then-number-ne-NONE c =
-    reloaded_refused c.args.gauge (replicate saved_length 0) refl c.save-number.ensures.number
+pub returns-in_err-save : goal.returns-in_err-save
+unfolding save_refusal reloaded_answer
+returns-in_err-save c =
+    let p = err_from_is_err_and c.from_residual.result c.from_residual.ensures.1 in
+    rw (p.1, p.2) (sym c.in_err-save.ensures.number)
 
 pub returns : goal.returns
 returns c =
-    reloaded_done c.args.gauge (replicate saved_length 0) refl (fits (goal.at.returns c).Start) c.save-number.ensures.number c.if-number-ne-NONE.false c.save-number.ensures.bytes c.load.ensures
+    rw (reloaded_done c.args.gauge (replicate saved_length 0) refl (fits (goal.at.returns c).Start) c.in_ok-save.ensures.number c.in_ok-save.ensures.bytes)
+    at c.load.ensures

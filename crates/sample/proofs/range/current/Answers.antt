@@ -2,7 +2,7 @@
 use Prim.Native.Nat.{◌<◌, ◌≤◌}
 use mathlib.Core.Path.{◌≡◌, ap, sym, ◌∙◌}
 use native.Mathlib.Omega.{arith}
-use borrow.Author.Tests.{le-leb, lt-leb}
+use borrow.Author.Tests.{le-leb, lt-leb, not-false, not-true}
 use Rattle.sample.specs.Limits.{most_current}
 use Rattle.sample.specs.Range.{current_in_range}
 use Rattle.numbers.specs.Signed.{magnitude, taken_apart}
@@ -19,20 +19,22 @@ unfolding current_in_range
 returns-then-apart c =
     let m = ap (λ (s : Signed). s.magnitude) (apart (goal.at.returns-then-apart c).After-take_apart-apart) in
     let h : most_current < magnitude c.args.a = omega arith in
-    simp (lt-leb _ _ h) c.none.ensures
+    simp (lt-leb _ _ h)
 
-pub returns-then-apart-2 : goal.returns-then-apart-2
+pub returns-then-not-apart : goal.returns-then-not-apart
 unfolding current_in_range
-returns-then-apart-2 c =
-    let m = ap (λ (s : Signed). s.magnitude) (apart (goal.at.returns-then-apart-2 c).After-take_apart-apart) in
-    let n = sym (ap (λ (s : Signed). s.negative) (apart (goal.at.returns-then-apart-2 c).After-take_apart-apart)) ∙ c.if-apart-2.true in
+returns-then-not-apart c =
+    let same = apart (goal.at.returns-then-not-apart c).After-take_apart-apart in
+    let m = ap (λ (s : Signed). s.magnitude) same in
+    let n = sym (ap (λ (s : Signed). s.negative) same) ∙ not-true _ c.if-not-apart.true in
     let h : magnitude c.args.a ≤ most_current = omega arith in
-    simp (le-leb _ _ h, n, m)
+    (simp (le-leb _ _ h), simp (le-leb _ _ h, n, m))
 
-pub returns : goal.returns
+pub returns-else-not-apart : goal.returns-else-not-apart
 unfolding current_in_range
-returns c =
-    let m = ap (λ (s : Signed). s.magnitude) (apart (goal.at.returns c).After-take_apart-apart) in
-    let n = sym (ap (λ (s : Signed). s.negative) (apart (goal.at.returns c).After-take_apart-apart)) ∙ c.if-apart-2.false in
+returns-else-not-apart c =
+    let same = apart (goal.at.returns-else-not-apart c).After-take_apart-apart in
+    let m = ap (λ (s : Signed). s.magnitude) same in
+    let n = sym (ap (λ (s : Signed). s.negative) same) ∙ not-false _ c.if-not-apart.false in
     let h : magnitude c.args.a ≤ most_current = omega arith in
-    simp (le-leb _ _ h, n, m)
+    (simp (le-leb _ _ h), simp (le-leb _ _ h, c.if-not-apart.false, n, m))

@@ -1,56 +1,33 @@
 -- Each way answers what its tests pick, in the paper's order. Assumes nothing.
-use mathlib.Core.Path.{◌≡◌, ap, ◌∙◌, sym}
+use mathlib.Core.Path.{ap, ◌∙◌, sym}
 use Prim.Native.Nat.{ℕ}
-use borrow.Author.Tests.{not-true, not-false}
+use Rattle.std.proofs.lemmas.Result.{err_from_is_err_and}
 use Rattle.configuration.specs.Configuration.{dmf}
 use Rattle.numbers.proofs.SignedLaws.{narrow}
+use Rattle.refusals.proofs.OrElseLaws.{none_first, refused_first}
 use Rattle.sample.specs.Current.{counted}
-use Rattle.sample.specs.Range.{current, current_in_range, temperature, temperature_in_range, voltage, voltage_in_range}
-use Rattle.sample.specs.declared.current.Current.{Current}
-use Rattle.gauge.specs.Window.{window}
-use Rattle.gauge.proofs.CallLaws.{window_rejected, window_current, window_voltage, window_temperature, window_done}
+use Rattle.gauge.proofs.CallLaws.{window_gauge, window_number}
+use Rattle.gauge.proofs.MeasuredLaws.{measured_alike, refused_alike, stepped_alike}
 use Rattle.gauge.proofs.state.Gauge.window.Goals as goal
 
-pub returns-then-not-accepted : goal.returns-then-not-accepted
-returns-then-not-accepted c =
+pub returns-in_err-tested : goal.returns-in_err-tested
+returns-in_err-tested c =
     let a = c.args in
-    window_rejected a.self a.a a.v a.t (sym c.accepted.ensures ∙ not-true _ c.if-not-accepted.true-raw)
+    let p = err_from_is_err_and c.from_residual.result c.from_residual.ensures.1 in
+    rw (p.1, p.2) (window_number a.self a.a a.v a.t ∙ refused_first _ _ _ (sym c.in_err-tested.ensures))
 
-pub returns-then-not-current_in_range : goal.returns-then-not-current_in_range
-returns-then-not-current_in_range c =
+pub returns-in_err-measured : goal.returns-in_err-measured
+returns-in_err-measured c =
     let a = c.args in
-    window_current a.self a.a a.v a.t (sym c.accepted.ensures ∙ not-false _ c.if-not-accepted.false-raw)
-    (sym (c.current_in_range.ensures ∙ ap current_in_range (narrow _ c.ranges.a)) ∙ not-true _ c.if-not-current_in_range.true-raw)
-
-pub returns-then-not-voltage_in_range : goal.returns-then-not-voltage_in_range
-returns-then-not-voltage_in_range c =
-    let a = c.args in
-    window_voltage a.self a.a a.v a.t (sym c.accepted.ensures ∙ not-false _ c.if-not-accepted.false-raw)
-    (sym (c.current_in_range.ensures ∙ ap current_in_range (narrow _ c.ranges.a)) ∙ not-false _ c.if-not-current_in_range.false-raw)
-    (sym (c.voltage_in_range.ensures ∙ ap voltage_in_range (narrow _ c.ranges.v)) ∙ not-true _ c.if-not-voltage_in_range.true-raw)
-
-pub returns-then-not-temperature_in_range : goal.returns-then-not-temperature_in_range
-returns-then-not-temperature_in_range c =
-    let a = c.args in
-    window_temperature a.self a.a a.v a.t (sym c.accepted.ensures ∙ not-false _ c.if-not-accepted.false-raw)
-    (sym (c.current_in_range.ensures ∙ ap current_in_range (narrow _ c.ranges.a)) ∙ not-false _ c.if-not-current_in_range.false-raw)
-    (sym (c.voltage_in_range.ensures ∙ ap voltage_in_range (narrow _ c.ranges.v)) ∙ not-false _ c.if-not-voltage_in_range.false-raw)
-    (sym (c.temperature_in_range.ensures ∙ ap temperature_in_range (narrow _ c.ranges.t)) ∙ not-true _ c.if-not-temperature_in_range.true-raw)
+    let p = err_from_is_err_and c.from_residual-in_err-measured.result c.from_residual-in_err-measured.ensures.1 in
+    let e = refused_alike (narrow _ c.ranges.a) (narrow _ c.ranges.v) (narrow _ c.ranges.t) in
+    rw (p.1, p.2) (window_number a.self a.a a.v a.t ∙ none_first _ _ (sym c.in_ok-tested.ensures) ∙ sym e ∙ c.in_err-measured.ensures)
 
 pub returns : goal.returns
 returns c =
     let a = c.args in
-    let g = a.self in
-    let i : c.counted-counted.result ≡ counted (dmf g.settings) (current a.a) =
-    c.counted-counted.ensures ∙ ap (λ (d : ℕ). counted d c.current.result) c.dmf.ensures.value
-    ∙ ap (counted (dmf g.settings)) (c.current.ensures ∙ ap current (narrow _ c.ranges.a)) in
-    let e = c.stepped-stepped.ensures ∙ ap (λ (x : Current). window x c.voltage.result c.temperature.result g) i
-    ∙ ap (λ (x : ℕ). window (counted (dmf g.settings) (current a.a)) x c.temperature.result g)
-    (c.voltage.ensures ∙ ap voltage (narrow _ c.ranges.v))
-    ∙ ap (λ (x : ℕ). window (counted (dmf g.settings) (current a.a)) (voltage a.v) x g)
-    (c.temperature.ensures ∙ ap temperature (narrow _ c.ranges.t)) in
-    window_done g a.a a.v a.t (sym c.accepted.ensures ∙ not-false _ c.if-not-accepted.false-raw)
-    (sym (c.current_in_range.ensures ∙ ap current_in_range (narrow _ c.ranges.a)) ∙ not-false _ c.if-not-current_in_range.false-raw)
-    (sym (c.voltage_in_range.ensures ∙ ap voltage_in_range (narrow _ c.ranges.v)) ∙ not-false _ c.if-not-voltage_in_range.false-raw)
-    (sym (c.temperature_in_range.ensures ∙ ap temperature_in_range (narrow _ c.ranges.t)) ∙ not-false _ c.if-not-temperature_in_range.false-raw)
-    e
+    let e = refused_alike (narrow _ c.ranges.a) (narrow _ c.ranges.v) (narrow _ c.ranges.t) in
+    let m = c.in_ok-measured.ensures.1 ∙ measured_alike (narrow _ c.ranges.a) (narrow _ c.ranges.v) (narrow _ c.ranges.t) in
+    let n = window_number a.self a.a a.v a.t ∙ none_first _ _ (sym c.in_ok-tested.ensures) ∙ sym e ∙ c.in_ok-measured.ensures.0 in
+    let d = c.counted-counted.ensures ∙ ap (λ (d : ℕ). counted d c.in_ok-measured.measured.current) c.dmf.ensures.value in
+    (n, window_gauge a.self a.a a.v a.t n (c.stepped-stepped.ensures ∙ stepped_alike (dmf a.self.settings) a.self m d))
