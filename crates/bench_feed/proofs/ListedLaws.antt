@@ -9,6 +9,7 @@ use lib.Dec.{eqb}
 use Rattle.bench_output.specs.Output.{text_of}
 use Rattle.bench_window.specs.Answer.{line_answered}
 use Rattle.gauge.specs.declared.state.Gauge.{Gauge}
+use Rattle.bench_feed.specs.declared.state.Step.{Step}
 use Rattle.lines.proofs.LineLaws.{line_read, fed_one}
 use Rattle.lines.proofs.TextLaws.{attached, attached_newline, attached_byte}
 use Rattle.lines.specs.Line.{before, line}
@@ -69,12 +70,19 @@ listed_byte g p b bs rest =
     ∙ rest
     ∙ ap (λ (ls : List (List ℕ)). list_printed g ls) (attached_byte p b (lines_of bs))
 
+-- a byte in a line of which some are read
+abbrev after_byte : Gauge → ℕ → Reading → Step
+after_byte g b r =
+    cond (eqb b 10)
+    (step (line_answered g (read_as r)).gauge fresh (Some (line_answered g (read_as r)).output))
+    (step g (Listed (Some (read_on r b))) None)
+
 pub listed_prints : (g : Gauge) (p bs : List ℕ) → printed_from (listed g p) bs ≡ list_printed g (attached p (lines_of bs))
 unfolding lines_of fed fed_at fed_listed
 listed_prints g p [] = listed_ends g p
 listed_prints g p (b ∷ bs) =
     byte_then_rest (listed g p) b bs
-    ∙ ap (λ (r : Reading). step_then (cond (eqb b 10) (step (line_answered g (read_as r)).gauge fresh (Some (line_answered g (read_as r)).output)) (step g (Listed (Some (read_on r b))) None)) bs) (begun_is p)
+    ∙ ap (λ (r : Reading). step_then (after_byte g b r) bs) (begun_is p)
     ∙ go (eqb b 10) (λ h q. listed_prints h q bs)
   where
     go : (t : Bool) → ((h : Gauge) (q : List ℕ) → printed_from (listed h q) bs ≡ list_printed h (attached q (lines_of bs)))

@@ -9,6 +9,9 @@ use Rattle.counters.specs.declared.cycles.Cycles.{Cycles}
 abbrev pub counters_of : ℕ → Cycles → Counters
 counters_of rests cycles = record { rests = rests; cycles = cycles }
 
+pub counters_alike : {m n : ℕ} {x y : Cycles} → m ≡ n → x ≡ y → counters_of m x ≡ counters_of n y
+counters_alike p q = cc
+
 -- ---- what callers use
 
 -- counting n windows and then m stops where counting all of them does

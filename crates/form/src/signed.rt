@@ -15,22 +15,14 @@ pub fn signed_pair(current: Current) -> u16
     }
 }
 
-// The first pair that is below 0.
-const FIRST_NEGATIVE: u16 = 32_768;
-
-// By direction and magnitude. By two ways, of which the compiler keeps the one that is taken.
+// By direction and magnitude.
 #[tactic(auto, unfolding(crate::specs::Signed::current_of))]
 pub fn current_of(pair: u16) -> Current
     ensures { result ≡ Spec.current_of pair }
 {
-    if pair < FIRST_NEGATIVE {
-        return Current {
-            charging: 0 < pair,
-            magnitude: pair,
-        };
-    }
+    let number = pair.cast_signed();
     Current {
-        charging: false,
-        magnitude: pair.wrapping_neg(),
+        charging: 0 < number,
+        magnitude: number.unsigned_abs(),
     }
 }

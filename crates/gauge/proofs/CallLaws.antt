@@ -40,6 +40,22 @@ tested_first g n = go (accepted g)
 pub tested_accepted : (g : Gauge) → unless_rejected g Refusal.none ≡ Refusal.none → accepted g ≡ true
 tested_accepted g e = (not_rejected (accepted g) Refusal.none e).0
 
+-- 14 for a gauge value that is rejected
+unfoldable pub Rejects : (Gauge → Answer) → Type 0
+Rejects call = (g : Gauge) → accepted g ≡ false → (call g).number ≡ Refusal.rejected
+
+pub window_rejects : (a v t : ℤ) → Rejects (λ g. window_answer g a v t)
+unfolding Rejects window_answer
+window_rejects a v t g e = simp e
+
+pub rest_rejects : (n : ℕ) (t : ℤ) → Rejects (λ g. rest_answer g n t)
+unfolding Rejects rest_answer
+rest_rejects n t g e = simp e
+
+pub write_rejects : (address value : ℕ) → Rejects (λ g. write_answer g address value)
+unfolding Rejects write_answer
+write_rejects address value g e = simp e
+
 -- the work is done where the number is 0
 pub answered_done : (n : ℕ) (g : Gauge) {next after : Gauge} → n ≡ Refusal.none → after ≡ next → (n ≡ Refusal.none) × (after ≡ (answered n g next).gauge)
 answered_done n g z e = (z, simp z e)

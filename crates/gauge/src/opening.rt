@@ -10,7 +10,6 @@ use configuration::settings::{Configuration, Settings};
 use counters::counters::Counters;
 use flags::flags::Flags;
 use host::host::Host;
-use numbers::little::ten_at;
 use refusals::Refusal;
 use sample::sample::Sample;
 use standby::standby::opened_standby;
@@ -40,10 +39,9 @@ fn opened(configuration: Configuration) -> Gauge
 pub fn open(bytes: &[u8]) -> Result<Gauge, Refusal>
     ensures { Answers result (Spec.open_refusal bytes.now) (Spec.opened bytes.now) }
 {
-    if bytes.len() != 10 {
+    let Ok(configuration) = Configuration::try_from(bytes) else {
         return Err(Refusal::ConfigurationLength);
-    }
-    let configuration = ten_at(bytes, 0);
+    };
     if ilmd(Settings::opened(configuration)) == 0 {
         return Err(Refusal::IlmdZero);
     }

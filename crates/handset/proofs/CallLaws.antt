@@ -1,15 +1,32 @@
--- What is kept of an opening's or a conversion's answer. Assumes nothing.
+-- The calls that move the gauge with their numbers as handed in, and what is kept of an opening's or a conversion's answer. Assumes nothing.
 use mathlib.Core.Bool.{Bool, true, false, cond}
 use mathlib.Core.List.{List}
-use mathlib.Core.Path.{◌≡◌, refl}
+use mathlib.Core.Path.{◌≡◌, refl, ap, ◌∙◌}
 use Prim.Native.Nat.{ℕ}
 use lib.Dec.{eqb}
+use lib.IntN.{ℤ}
 use lib.ListN.{length}
 use Rattle.form.specs.Form.{saved_length}
 use Rattle.gauge.specs.Answer.{Answer}
 use Rattle.refusals.specs.Refusal as Refusal
 use Rattle.saved.specs.Save.{put_after, saved_bytes}
+use Rattle.handset.specs.Calls.{call_bytes, call_number, rest_call, window_call}
 use Rattle.handset.specs.Keep.{kept_bytes, kept_number}
+
+-- ---- equal arguments
+
+module _ (saved : List ℕ) {t u : ℤ} {r : ℕ} {after : List ℕ} (z : t ≡ u) where
+  pub windowed : {a b v w : ℤ} → a ≡ b → v ≡ w → r ≡ call_number saved (window_call a v t) → after ≡ call_bytes saved (window_call a v t)
+      → (r ≡ call_number saved (window_call b w u)) × (after ≡ call_bytes saved (window_call b w u))
+  windowed {a} {b} {v} {w} x y p q =
+      let same = ap (λ (n : ℤ). window_call n v t) x ∙ ap (λ (n : ℤ). window_call b n t) y ∙ ap (window_call b w) z in
+      (p ∙ ap (call_number saved) same, q ∙ ap (call_bytes saved) same)
+
+  pub rested : (n : ℕ) → r ≡ call_number saved (rest_call n t) → after ≡ call_bytes saved (rest_call n t)
+      → (r ≡ call_number saved (rest_call n u)) × (after ≡ call_bytes saved (rest_call n u))
+  rested n p q = let same = ap (rest_call n) z in (p ∙ ap (call_number saved) same, q ∙ ap (call_bytes saved) same)
+
+-- ---- opening and a conversion
 
 -- what is kept of an answer, by its own number and 13
 pub kept_is : (answer : Answer) (saved : List ℕ)

@@ -10,6 +10,13 @@ use Rattle.numbers.specs.Bits.{bit_set}
 use Rattle.numbers.proofs.BitLaws.{at_each_bool, every_bool}
 use Rattle.numbers.proofs.EveryLaws.{at_each_below}
 use Rattle.host.specs.Host.{commands_cleared, init_cleared}
+use Rattle.host.specs.declared.host.Host.{Host}
+
+abbrev pub host_with : ℕ → ℕ → Host
+host_with mode ar = record { mode = mode; ar = ar }
+
+pub host_alike : {m n a b : ℕ} → m ≡ n → a ≡ b → host_with m a ≡ host_with n b
+host_alike p q = cc
 
 -- ---- the code's arithmetic
 

@@ -20,7 +20,7 @@ fn entry(at: u32) -> u16
     TABLE[at as usize]
 }
 
-// 16 is for a voltage that is not. The test alone, which the claim on the table speaks of.
+// 16 is for a voltage that is not.
 pub fn in_table(voltage: i32) -> bool
     ensures { result ≡ Spec.in_table voltage }
 {

@@ -609,6 +609,7 @@ returns c =
       };
       bench = record {
         shown_14 = refl;
+        refused_in_order = refl;
         shown_22 = refl;
         put_last = refl;
         put_past = refl;
