@@ -64,18 +64,20 @@ def named_in(body, crate, source):
 
 
 def lay_types(crate, folder):
-    """A module for each file of a crate that has a type."""
-    files = []
+    """A module for each file of a crate that has a type; the types of its lib.rt stand in the crate's own module."""
+    files, own = [], ""
     for source in sorted((ROOT / "crates" / crate / "src").glob("*.rt")):
         text = source.read_text()
         body = "".join(types_of(text))
-        if body and source.stem not in ("lib", "main"):
+        if body and source.stem == "lib":
+            own = "".join(named_in(body, crate, text)) + body
+        elif body and source.stem != "main":
             (folder / "src" / crate).mkdir(exist_ok=True)
             (folder / "src" / crate / source.name).write_text("".join(named_in(body, crate, text)) + body)
             files.append(source.stem)
-    if files:
-        (folder / "src" / f"{crate}.rt").write_text("".join(f"pub mod {name};\n" for name in files))
-    return bool(files)
+    if files or own:
+        (folder / "src" / f"{crate}.rt").write_text("".join(f"pub mod {name};\n" for name in files) + own)
+    return bool(files or own)
 
 
 def renamed(match):
@@ -133,3 +135,21 @@ def lay(folder, stage):
         (folder / "specs" / f"{name}.antt").write_text("".join(f"pub mod {f.stem}\n" for f in files))
     (folder / "specs" / "SameLists.antt").write_text(SAME_LISTS_TEXT)
     (folder / "specs" / "Lib.antt").write_text("".join(f"pub mod {name}\n" for name in names + ["SameLists"]))
+
+
+def has_type(folder, path, name):
+    """Whether a type is laid at a crate, or at a module of one."""
+    file = (folder / "src").joinpath(*path).with_suffix(".rt")
+    return file.is_file() and re.search(rf"\b(?:struct|enum|type) {name}\b", file.read_text()) is not None
+
+
+def unlaid(folder):
+    """The types that the laid files speak of and that are not laid."""
+    asked = set()
+    for file in (folder / "specs").rglob("*.antt"):
+        for place in re.findall(r"Rattle\.pinned\.specs\.declared\.([\w.]*\w)", file.read_text()):
+            *path, name = [part for part in place.split(".") if part != "TheVariants"]
+            asked.add((tuple(path), name))
+    for file in (folder / "src").rglob("*.rt"):
+        asked.update((tuple(path.split("::")), name) for path, name in re.findall(r"^use crate::([\w:]+)::(\w+);", file.read_text(), re.M))
+    return sorted("::".join((*path, name)) for path, name in asked if not has_type(folder, path, name))

@@ -20,7 +20,7 @@ ended_prints g (b ∷ bs) = ended_prints g bs
 ended_is : (place : Place) → ended_at place ≡ true → place ≡ Ended
 unfolding ended_at
 ended_is (First matched) e = cc
-ended_is (Listed begun) e = cc
+ended_is (Listed begun r) e = cc
 ended_is Ended e = refl
 
 -- whatever follows, nothing more is printed

@@ -1,7 +1,7 @@
 -- The lines of the list fed byte by byte print what they print as lines. Each law is stated over the bytes that the line has had so
 -- far. Assumes nothing.
 use mathlib.Core.Bool.{Bool, true, false, cond}
-use Rattle.std.specs.Prelude.{Option, Some, None, ℤ, unwrap_or}
+use Rattle.std.specs.Prelude.{Option, Some, None, ℤ}
 use mathlib.Core.List.{List, [], ◌∷◌, ◌++◌, append-nil}
 use mathlib.Core.Path.{◌≡◌, refl, sym, ap, ◌∙◌}
 use Prim.Native.Nat.{ℕ}
@@ -9,7 +9,6 @@ use lib.Dec.{eqb}
 use Rattle.bench_output.specs.Output.{text_of}
 use Rattle.bench_window.specs.Answer.{line_answered}
 use Rattle.gauge.specs.declared.state.Gauge.{Gauge}
-use Rattle.bench_feed.specs.declared.state.Step.{Step}
 use Rattle.lines.proofs.LineLaws.{line_read, fed_one}
 use Rattle.lines.proofs.TextLaws.{attached, attached_newline, attached_byte}
 use Rattle.lines.specs.Line.{before, line}
@@ -24,26 +23,21 @@ use Rattle.bench_feed.specs.declared.state.Bench.{Bench}
 use Rattle.bench_feed.specs.declared.state.Place.TheVariants.{Listed}
 use Rattle.bench_feed.proofs.InputLaws.{at, step_then, byte_then_rest}
 
+-- a byte has begun the line
+abbrev begun : List ℕ → Bool
+begun [] = false
+begun (x ∷ p) = true
+
+begun_one : (p : List ℕ) (b : ℕ) → begun (p ++ (b ∷ [])) ≡ true
+begun_one [] b = refl
+begun_one (x ∷ p) b = refl
+
 abbrev reading : List ℕ → Reading
 reading p = read_all empty_line p
 
--- a line that a byte has begun
-abbrev begun : List ℕ → Option Reading
-begun [] = None
-begun (x ∷ p) = Some (reading (x ∷ p))
-
-begun_is : (p : List ℕ) → unwrap_or (begun p) empty_line ≡ reading p
-unfolding read_all
-begun_is [] = refl
-begun_is (x ∷ p) = refl
-
-begun_one : (p : List ℕ) (b : ℕ) → begun (p ++ (b ∷ [])) ≡ Some (read_on (reading p) b)
-begun_one [] b = ap (λ (r : Reading). Some r) (fed_one empty_line [] b)
-begun_one (x ∷ p) b = ap (λ (r : Reading). Some r) (fed_one empty_line (x ∷ p) b)
-
 -- in a line of the list that begins with these bytes
 abbrev listed : Gauge → List ℕ → Bench
-listed g p = at g (Listed (begun p))
+listed g p = at g (Listed (begun p) (reading p))
 
 listed_ends : (g : Gauge) (p : List ℕ) → printed_from (listed g p) [] ≡ list_printed g (attached p [])
 unfolding printed_from printed_at fed_all last_output last_output_at line_output text_of list_printed
@@ -63,30 +57,21 @@ listed_newline g p bs rest =
 
 listed_byte : (g : Gauge) (p : List ℕ) (b : ℕ) (bs : List ℕ)
     → printed_from (listed g (p ++ (b ∷ []))) bs ≡ list_printed g (attached (p ++ (b ∷ [])) (lines_of bs))
-    → step_then (step g (Listed (Some (read_on (reading p) b))) None) bs ≡ list_printed g (attached p (before b (lines_of bs)))
+    → step_then (step g (Listed true (read_on (reading p) b)) None) bs ≡ list_printed g (attached p (before b (lines_of bs)))
 unfolding text_of
 listed_byte g p b bs rest =
-    sym (ap (λ (r : Option Reading). printed_from (at g (Listed r)) bs) (begun_one p b))
+    sym (ap (λ (t : Bool). printed_from (at g (Listed t (read_on (reading p) b))) bs) (begun_one p b))
+    ∙ sym (ap (λ (r : Reading). printed_from (at g (Listed (begun (p ++ (b ∷ []))) r)) bs) (fed_one empty_line p b))
     ∙ rest
     ∙ ap (λ (ls : List (List ℕ)). list_printed g ls) (attached_byte p b (lines_of bs))
-
--- a byte in a line of which some are read
-abbrev after_byte : Gauge → ℕ → Reading → Step
-after_byte g b r =
-    cond (eqb b 10)
-    (step (line_answered g (read_as r)).gauge fresh (Some (line_answered g (read_as r)).output))
-    (step g (Listed (Some (read_on r b))) None)
 
 pub listed_prints : (g : Gauge) (p bs : List ℕ) → printed_from (listed g p) bs ≡ list_printed g (attached p (lines_of bs))
 unfolding lines_of fed fed_at fed_listed
 listed_prints g p [] = listed_ends g p
-listed_prints g p (b ∷ bs) =
-    byte_then_rest (listed g p) b bs
-    ∙ ap (λ (r : Reading). step_then (after_byte g b r) bs) (begun_is p)
-    ∙ go (eqb b 10) (λ h q. listed_prints h q bs)
+listed_prints g p (b ∷ bs) = byte_then_rest (listed g p) b bs ∙ go (eqb b 10) (λ h q. listed_prints h q bs)
   where
     go : (t : Bool) → ((h : Gauge) (q : List ℕ) → printed_from (listed h q) bs ≡ list_printed h (attached q (lines_of bs)))
-        → step_then (cond t (step (line_answered g (read_as (reading p))).gauge fresh (Some (line_answered g (read_as (reading p))).output)) (step g (Listed (Some (read_on (reading p) b))) None)) bs
+        → step_then (cond t (step (line_answered g (read_as (reading p))).gauge fresh (Some (line_answered g (read_as (reading p))).output)) (step g (Listed true (read_on (reading p) b)) None)) bs
         ≡ list_printed g (attached p (cond t ([] ∷ lines_of bs) (before b (lines_of bs))))
     go true rest = listed_newline g p bs (λ h. rest h [])
     go false rest = listed_byte g p b bs (rest g (p ++ (b ∷ [])))

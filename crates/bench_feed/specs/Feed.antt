@@ -19,7 +19,7 @@ start = record { gauge = bench_gauge; place = First (Some 0) }
 -- after another first line nothing is printed: "and ends it"
 unfoldable pub fed_at : Gauge → Place → ℕ → Step
 fed_at g (First matched) b = fed_first g matched b
-fed_at g (Listed begun) b = fed_listed g begun b
+fed_at g (Listed begun r) b = fed_listed g r b
 fed_at g Ended b = step g Ended None
 
 unfoldable pub fed : Bench → ℕ → Step
@@ -30,7 +30,7 @@ fed s b = fed_at s.gauge s.place b
 -- a first line, or a line of the list, that no newline ends is a line
 unfoldable pub last_output_at : Gauge → Place → Option Output
 last_output_at g (First matched) = Some (first_output matched)
-last_output_at g (Listed begun) = line_output g begun
+last_output_at g (Listed begun r) = line_output g begun r
 last_output_at g Ended = None
 
 unfoldable pub last_output : Bench → Option Output
@@ -40,7 +40,7 @@ last_output s = last_output_at s.gauge s.place
 
 unfoldable pub ended_at : Place → Bool
 ended_at (First matched) = false
-ended_at (Listed begun) = false
+ended_at (Listed begun r) = false
 ended_at Ended = true
 
 unfoldable pub is_ended : Bench → Bool

@@ -1,5 +1,5 @@
 -- A line of the list, byte by byte. Definitions only; assumes nothing.
-use Rattle.std.specs.Prelude.{cond, ℕ, eqb, Option, Some, None, unwrap_or}
+use Rattle.std.specs.Prelude.{Bool, true, false, cond, ℕ, eqb, Option, Some, None}
 use Rattle.bench_output.specs.declared.output.Output.{Output}
 use Rattle.bench_window.specs.Answer.{line_answered}
 use Rattle.gauge.specs.declared.state.Gauge.{Gauge}
@@ -15,17 +15,15 @@ step g place output = record { bench = record { gauge = g; place = place }; outp
 
 -- a line of the list is to begin
 abbrev pub fresh : Place
-fresh = Listed None
+fresh = Listed false Reading'.start
 
 -- a newline ends the line, which is answered; any other byte is one of it
-unfoldable pub fed_listed : Gauge → Option Reading → ℕ → Step
-fed_listed g begun b =
+unfoldable pub fed_listed : Gauge → Reading → ℕ → Step
+fed_listed g r b =
     cond (eqb b 10)
-    (step (line_answered g (Reading'.read_as (unwrap_or begun Reading'.start))).gauge fresh
-    (Some (line_answered g (Reading'.read_as (unwrap_or begun Reading'.start))).output))
-    (step g (Listed (Some (Reading'.fed (unwrap_or begun Reading'.start) b))) None)
+    (step (line_answered g (Reading'.read_as r)).gauge fresh (Some (line_answered g (Reading'.read_as r)).output))
+    (step g (Listed true (Reading'.fed r b)) None)
 
 -- the end of the input: "A last newline begins no further line."
-unfoldable pub line_output : Gauge → Option Reading → Option Output
-line_output g None = None
-line_output g (Some r) = Some (line_answered g (Reading'.read_as r)).output
+unfoldable pub line_output : Gauge → Bool → Reading → Option Output
+line_output g begun r = cond begun (Some (line_answered g (Reading'.read_as r)).output) None

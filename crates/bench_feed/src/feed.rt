@@ -33,7 +33,7 @@ impl Bench {
         let Bench { gauge, place } = self;
         match place {
             Place::First(matched) => first_fed(gauge, matched, byte),
-            Place::Listed(begun) => listed_fed(gauge, begun, byte),
+            Place::Listed { begun: _, reading } => listed_fed(gauge, reading, byte),
             Place::Ended => Step {
                 bench: self,
                 output: None,
@@ -49,7 +49,7 @@ impl Bench {
         let Bench { gauge, place } = self;
         match place {
             Place::First(matched) => Some(first_output(matched)),
-            Place::Listed(begun) => line_output(gauge, begun),
+            Place::Listed { begun, reading } => line_output(gauge, begun, reading),
             Place::Ended => None,
         }
     }

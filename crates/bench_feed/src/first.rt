@@ -2,6 +2,7 @@
 ghost use Rattle.std.specs.Prelude.{◌≡◌};
 ghost use Rattle.bench_feed.specs.First as Spec;
 
+use crate::list::fresh;
 use crate::state::{Bench, NEWLINE, Place, Step};
 use bench_output::output::Output;
 use gauge::state::Gauge;
@@ -41,7 +42,7 @@ fn after_first(matched: Option<u8>) -> Place
     ensures { result ≡ Spec.after_first matched }
 {
     match matched {
-        Some(WHOLE) => Place::Listed(None),
+        Some(WHOLE) => fresh(),
         _ => Place::Ended,
     }
 }

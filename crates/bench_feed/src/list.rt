@@ -8,23 +8,35 @@ use bench_window::answer::{Answered, answer_line};
 use gauge::state::Gauge;
 use lines::line::Reading;
 
+// A line of the list is to begin.
+pub fn fresh() -> Place
+    ensures { result ≡ Spec.fresh }
+{
+    Place::Listed {
+        begun: false,
+        reading: Reading::start(),
+    }
+}
+
 // A byte in a line of the list, the newline that ends it among them.
 #[tactic(auto, unfolding(crate::specs::Listed::fed_listed))]
-pub fn listed_fed(gauge: Gauge, begun: Option<Reading>, byte: u8) -> Step
-    ensures { result ≡ Spec.fed_listed gauge begun byte }
+pub fn listed_fed(gauge: Gauge, reading: Reading, byte: u8) -> Step
+    ensures { result ≡ Spec.fed_listed gauge reading byte }
 {
-    let reading = begun.unwrap_or(Reading::start());
     if byte == NEWLINE {
         let Answered { gauge, output } = answer_line(gauge, reading.line());
         return Step {
             bench: Bench {
                 gauge,
-                place: Place::Listed(None),
+                place: fresh(),
             },
             output: Some(output),
         };
     }
-    let place = Place::Listed(Some(reading.fed(byte)));
+    let place = Place::Listed {
+        begun: true,
+        reading: reading.fed(byte),
+    };
     Step {
         bench: Bench { gauge, place },
         output: None,
@@ -33,8 +45,12 @@ pub fn listed_fed(gauge: Gauge, begun: Option<Reading>, byte: u8) -> Step
 
 // What the end of the input prints in a line of the list: "A last newline begins no further line."
 #[tactic(auto, unfolding(crate::specs::Listed::line_output))]
-pub fn line_output(gauge: Gauge, begun: Option<Reading>) -> Option<Output>
-    ensures { result ≡ Spec.line_output gauge begun }
+pub fn line_output(gauge: Gauge, begun: bool, reading: Reading) -> Option<Output>
+    ensures { result ≡ Spec.line_output gauge begun reading }
 {
-    Some(answer_line(gauge, begun?.line()).output)
+    if begun {
+        Some(answer_line(gauge, reading.line()).output)
+    } else {
+        None
+    }
 }

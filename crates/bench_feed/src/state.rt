@@ -8,8 +8,8 @@ use lines::line::Reading;
 pub enum Place {
     // in the first line: so many bytes of it, all as the names line has them, or none where it is another line
     First(Option<u8>),
-    // in a line of the list, or none where no byte has begun it
-    Listed(Option<Reading>),
+    // in a line of the list, of which a byte has begun it or none
+    Listed { begun: bool, reading: Reading },
     // after another first line
     Ended,
 }

@@ -3,7 +3,6 @@ use Rattle.std.specs.Prelude.{List, [], ◌∷◌, ◌++◌, ℕ, Option, Some, 
 use Rattle.lines.specs.Decimal.{decimal}
 use Rattle.bench_output.specs.declared.output.Output.{Output}
 use Rattle.bench_output.specs.declared.output.Output.TheVariants.{Heading, Names, Unread, Refused, Registers}
-use Rattle.refusals.specs.Refusal as Refusal
 
 -- the room that an output is given; no text is longer
 abbrev pub room : ℕ
@@ -37,5 +36,5 @@ text_of None = []
 text_of (Some Heading) = heading_text
 text_of (Some Names) = names_text
 text_of (Some Unread) = unread_text
-text_of (Some (Refused refusal)) = refused_text (Refusal.number refusal)
+text_of (Some (Refused number)) = refused_text number
 text_of (Some (Registers nac lmd rsoc flags)) = registers_text nac lmd rsoc flags

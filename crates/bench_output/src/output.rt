@@ -1,6 +1,4 @@
 // What the bench program prints at the end of a line.
-use refusals::Refusal;
-
 #[derive(Clone, Copy, Debug, PartialEq, Eq)]
 pub enum Output {
     Heading,
@@ -8,7 +6,8 @@ pub enum Output {
     Names,
     // a line that is not three whole numbers
     Unread,
-    Refused(Refusal),
+    // the number of a refusal
+    Refused(u32),
     // the registers after a window
     Registers {
         nac: u16,

@@ -3,11 +3,9 @@ ghost use Rattle.std.specs.Prelude.{◌≡◌, ◌+◌, ◌≤◌, length};
 ghost use Rattle.std.proofs.lemmas.List.Edits.{sets};
 ghost use Rattle.bench_output.specs.Output as Spec;
 ghost use Rattle.lines.specs.Put.{place_after, put_at};
-ghost use Rattle.refusals.specs.Refusal.{number};
 
 use crate::output::Output;
 use lines::put::{has_room, put_number, put_text};
-use refusals::Refusal;
 
 // The room that an output is given. No text is longer.
 pub const ROOM: usize = 64;
@@ -24,14 +22,14 @@ fn put_registers(nac: u16, lmd: u16, rsoc: u8, flags: u8, out: &mut [u8], at: us
     put_number(u32::from(flags), b'\n', out, fourth)
 }
 
-fn put_refused(refusal: Refusal, out: &mut [u8], at: usize) -> usize
+fn put_refused(number: u32, out: &mut [u8], at: usize) -> usize
     requires { at + Spec.room ≤ length out.old }
-    ensures place { result ≡ at + length (Spec.refused_text (number refusal)) }
-    ensures bytes { out.new ≡ sets out.old at (Spec.refused_text (number refusal)) }
+    ensures place { result ≡ at + length (Spec.refused_text number) }
+    ensures bytes { out.new ≡ sets out.old at (Spec.refused_text number) }
     ensures within { result ≤ at + Spec.room }
 {
     let second = put_text(b"refused ", out, at);
-    put_number(refusal.number(), b'\n', out, second)
+    put_number(number, b'\n', out, second)
 }
 
 // The text of an output where there is room.
@@ -47,7 +45,7 @@ fn put_case(output: Option<Output>, out: &mut [u8], at: usize) -> usize
         Some(Output::Heading) => put_text(b"nac lmd rsoc flags\n", out, at),
         Some(Output::Names) => put_text(b"names\n", out, at),
         Some(Output::Unread) => put_text(b"unread\n", out, at),
-        Some(Output::Refused(refusal)) => put_refused(refusal, out, at),
+        Some(Output::Refused(number)) => put_refused(number, out, at),
         Some(
             Output::Registers {
                 nac,

@@ -14,7 +14,7 @@ use Rattle.refusals.specs.declared.Refusal.{Refusal}
 use Rattle.bench_window.specs.Answer.{answer_output, line_answered}
 use Rattle.bench_window.specs.Shown.{registers_output}
 use Rattle.bench_window.specs.declared.answer.Answered.{Answered}
-use Rattle.bench_window.proofs.RefusedLaws.{number_is_none, refused_is}
+use Rattle.bench_window.proofs.RefusedLaws.{number_is_none}
 
 abbrev answered : Answer → Answered
 answered w = record { gauge = w.gauge; output = answer_output w.number w.gauge }
@@ -25,9 +25,9 @@ unfolding answer_output
 window_ran w after s n e f = simp (n, f, e)
 
 window_refused : (g : Gauge) (w : Answer) (r : Refusal) → w.number ≡ number r → w.gauge ≡ g
-    → ◌≡◌ {A = Answered} (record { gauge = g; output = Refused r }) (answered w)
+    → ◌≡◌ {A = Answered} (record { gauge = g; output = Refused (number r) }) (answered w)
 unfolding answer_output
-window_refused g w r n e = simp (n, number_is_none r, e, refused_is r)
+window_refused g w r n e = simp (n, number_is_none r, e)
 
 -- a refused window leaves the gauge
 left : (g : Gauge) (a v t : ℤ) (r : Refusal) → (window_answer g a v t).number ≡ number r → (window_answer g a v t).gauge ≡ g
@@ -47,5 +47,6 @@ module _ (g : Gauge) (a v t : ℤ) (ha : SFits w32 a) (hv : SFits w32 v) (ht : S
       → ◌≡◌ {A = Answered} (record { gauge = after; output = s }) (line_answered g line)
   ran after s p f = window_ran window after s p.0 p.1 f ∙ read_back
 
-  pub was_refused : (r : Refusal) → window.number ≡ number r → ◌≡◌ {A = Answered} (record { gauge = g; output = Refused r }) (line_answered g line)
+  pub was_refused : (r : Refusal) → window.number ≡ number r
+      → ◌≡◌ {A = Answered} (record { gauge = g; output = Refused (number r) }) (line_answered g line)
   was_refused r n = window_refused g window r n (left g _ _ _ r n) ∙ read_back

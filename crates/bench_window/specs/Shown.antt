@@ -1,24 +1,11 @@
 -- NAC, LMD, RSOC and FLAGS as a host reads them. Definitions only; assumes nothing.
-use Rattle.std.specs.Prelude.{cond, List, [], ◌∷◌, ℕ, ◌-◌, eqb, get_or, replicate}
+use Rattle.std.specs.Prelude.{cond, List, ℕ, ◌-◌, eqb, get_or, replicate}
 use Rattle.bench_output.specs.declared.output.Output.{Output}
 use Rattle.bench_output.specs.declared.output.Output.TheVariants.{Refused, Registers}
 use Rattle.gauge.specs.declared.state.Gauge.{Gauge}
 use Rattle.numbers.specs.Little.{number_at}
 use Rattle.refusals.specs.Refusal as Refusal
-use Rattle.refusals.specs.declared.Refusal as Declared
-use Rattle.refusals.specs.declared.Refusal.TheVariants.{ConfigurationLength, IlmdZero, CurrentRange, VoltageRange, TemperatureRange, RestLength, NotWritable}
-use Rattle.refusals.specs.declared.Refusal.TheVariants.{UnknownKey, NoCommandBit, NotCarried, WrtlmdZero, RegisterRange, BufferLength, Rejected, NotRested, OutsideTable}
 use Rattle.registers.specs.Reading.{read_refusal, reply_after}
-
--- the refusals in the order of their numbers, from 1 on
-abbrev pub in_order : List Declared.Refusal
-in_order =
-    ConfigurationLength ∷ IlmdZero ∷ CurrentRange ∷ VoltageRange ∷ TemperatureRange ∷ RestLength ∷ NotWritable ∷ UnknownKey
-    ∷ NoCommandBit ∷ NotCarried ∷ WrtlmdZero ∷ RegisterRange ∷ BufferLength ∷ Rejected ∷ NotRested ∷ OutsideTable ∷ []
-
--- what is printed of a refusal's number
-unfoldable pub refused : ℕ → Output
-refused number = Refused (get_or in_order (number - 1) Rejected)
 
 -- the number of a read of the six registers from 0x0A on into a reply of six bytes: 14, or 0
 abbrev pub six_number : Gauge → ℕ
@@ -41,4 +28,4 @@ unfoldable pub registers_output : Gauge → Output
 registers_output g =
     cond (eqb (six_number g) Refusal.none)
     (Registers (pair_read g 0x0C) (pair_read g 0x0E) (byte_read g 0x0B) (byte_read g 0x0A))
-    (refused (six_number g))
+    (Refused (six_number g))

@@ -31,7 +31,7 @@ pub fn answer_line(gauge: Gauge, line: Option<(i32, i32, i32)>) -> Answered
         },
         Err(refusal) => Answered {
             gauge,
-            output: Output::Refused(refusal),
+            output: Output::Refused(refusal.number()),
         },
     }
 }

@@ -19,6 +19,6 @@ pub fn registers_output(gauge: Gauge) -> Output
             rsoc: six[1],
             flags: six[0],
         },
-        Err(refusal) => Output::Refused(refusal),
+        Err(refusal) => Output::Refused(refusal.number()),
     }
 }

@@ -2,11 +2,11 @@
 -- further on. Assumes nothing.
 use mathlib.Core.List.{List, [], ◌++◌}
 use mathlib.Core.Logic.{◌⊎◌, inl, inr}
-use mathlib.Core.Path.{◌≡◌, sym, ap, ◌∙◌}
+use mathlib.Core.Path.{◌≡◌, refl, sym, ap, ◌∙◌}
 use Prim.Native.Nat.{ℕ, ◌≤◌}
 use native.Mathlib.Omega.{arith}
 use lib.ListN.{drop, length, replicate, take}
-use Rattle.form.specs.Form.{length_of, saved_length}
+use Rattle.form.specs.Form.{form2, form3, form4, length_of, newest, saved_length}
 use Rattle.form.specs.InNewest.{in_newest, widened}
 use Rattle.form.specs.Form.{laid_out}
 use Rattle.numbers.specs.Little.{bytes_at}
@@ -15,6 +15,27 @@ use Rattle.numbers.proofs.LittleLaws.{bytes_from}
 use Rattle.every_form.specs.EveryForm.{form_as}
 use Rattle.every_form.specs.declared.every_form.SavedForm.{SavedForm}
 use Rattle.every_form.specs.declared.every_form.SavedForm.TheVariants.{One, Two, Three, Four, Newest}
+
+-- ---- bytes in the newest form's places, one by one
+
+module _ (bytes : List ℕ) where
+  form_2_laid : bytes_at 41 0 bytes ++ drop 41 (replicate saved_length 0) ≡ in_newest form2 bytes
+  unfolding in_newest widened laid_out
+  form_2_laid = refl
+
+  form_3_laid : bytes_at 43 0 bytes ++ drop 43 (replicate saved_length 0) ≡ in_newest form3 bytes
+  unfolding in_newest widened laid_out
+  form_3_laid = refl
+
+  form_4_laid : bytes_at 43 0 bytes ++ (drop 53 (replicate saved_length 0) ++ bytes_at 10 43 bytes) ≡ in_newest form4 bytes
+  unfolding in_newest widened laid_out
+  form_4_laid = refl
+
+  newest_laid : bytes_at 55 0 bytes ++ drop 55 (replicate saved_length 0) ≡ in_newest newest bytes
+  unfolding in_newest widened laid_out
+  newest_laid = refl
+
+-- ---- copies
 
 module _ (form : SavedForm) (bytes : List ℕ) (l : length bytes ≡ length_of (form_as form).fields) where
   -- as many as the form of that name has

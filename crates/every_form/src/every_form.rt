@@ -21,7 +21,7 @@ use refusals::Refusal;
 
 // The forms that are read.
 #[derive(Clone, Copy, Debug, PartialEq, Eq)]
-enum SavedForm {
+pub enum SavedForm {
     One,
     Two,
     Three,

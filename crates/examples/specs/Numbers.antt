@@ -1,14 +1,23 @@
 -- "The fourteen numbers" of paper 01: the example of each row of its table, 14 excepted, which the saved form's own contract tests. Definitions
 -- only; assumes nothing.
-use Rattle.std.specs.Prelude.{◌≡◌, Some, None, [], ◌∷◌, map, pos, negsuc, replicate, set}
+use Rattle.std.specs.Prelude.{true, ◌≡◌, ℕ, ◌+◌, Result, Ok, Err, Some, None, [], ◌∷◌, map, pos, negsuc, replicate, set}
 use Rattle.configuration.specs.BenchPack.{bench_pack}
 use Rattle.gauge.specs.Calls.{rest_refusal, sample_refusal, write_refusal}
 use Rattle.gauge.specs.Opening.{open_refusal}
-use Rattle.refusals.specs.Refusal.{number}
+use Rattle.gauge.specs.Window.{measured}
+use Rattle.refusals.specs.Refusal.{left_by, number}
+use Rattle.refusals.specs.declared.Refusal.{Refusal}
 use Rattle.refusals.specs.declared.Refusal.TheVariants.{ConfigurationLength, IlmdZero, CurrentRange, VoltageRange, TemperatureRange, RestLength, NotWritable}
 use Rattle.refusals.specs.declared.Refusal.TheVariants.{UnknownKey, NoCommandBit, NotCarried, WrtlmdZero, RegisterRange, BufferLength, Rejected, NotRested, OutsideTable}
 use Rattle.registers.specs.Reading.{place_refusal}
 use Rattle.sample.specs.Range.{read_between}
+
+-- a call that hands out a number, and one that is refused
+abbrev handed : Result ℕ Refusal
+handed = Ok 5
+
+abbrev not_handed : Result ℕ Refusal
+not_handed = Err NotRested
 
 pub record Numbers : Type 0 where
   -- the refusals in the order of the table, and those of paper 02 behind them
@@ -16,11 +25,16 @@ pub record Numbers : Type 0 where
       ≡ 1 ∷ 2 ∷ 3 ∷ 4 ∷ 5 ∷ 6 ∷ 7 ∷ 8 ∷ []
   pub last_eight : map number (NoCommandBit ∷ NotCarried ∷ WrtlmdZero ∷ RegisterRange ∷ BufferLength ∷ Rejected ∷ NotRested ∷ OutsideTable ∷ [])
       ≡ 9 ∷ 10 ∷ 11 ∷ 12 ∷ 13 ∷ 14 ∷ 15 ∷ 16 ∷ []
+  -- a lent number that held 7
+  pub left_handed : left_by handed (λ n. n + 1) 7 ≡ 6
+  pub left_refused : left_by not_handed (λ n. n + 1) 7 ≡ 7
   -- "9 bytes"
   pub number_1 : open_refusal (replicate 9 1) ≡ 1
   -- "first byte 0x00"
   pub number_2 : open_refusal (set bench_pack 0 0x00) ≡ 2
   pub opens : open_refusal bench_pack ≡ 0
+  -- the numbers of a window, each in its place
+  pub three_measured : measured (pos 20) (pos 4_150) (pos 1_192) ≡ record { current = record { charging = true; magnitude = 20 }; voltage = 4_150; temperature = 1_192 }
   -- "28,012", and the same drawn; 28,011 is in range
   pub number_3 : sample_refusal (pos 28_012) (pos 3_600) (pos 1_192) ≡ 3
   pub number_3_drawn : sample_refusal (negsuc 28_011) (pos 3_600) (pos 1_192) ≡ 3

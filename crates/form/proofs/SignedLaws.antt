@@ -14,6 +14,28 @@ use Rattle.form.specs.Signed.{current_of, first_negative, pairs, signed_pair}
 abbrev pub current_with : Bool → ℕ → Current
 current_with charging magnitude = record { charging = charging; magnitude = magnitude }
 
+-- ---- each way of the two functions
+
+pub pair_of_charge : (c : Current) → c.charging ≡ true → c.magnitude ≡ signed_pair c
+unfolding signed_pair
+pair_of_charge c e = simp e
+
+pub pair_of_discharge : (c : Current) → c.charging ≡ false → (pairs - c.magnitude) % pairs ≡ signed_pair c
+unfolding signed_pair
+pair_of_discharge c e = simp e
+
+both : (a : Bool) → (a && true) ≡ a
+both true = refl
+both false = refl
+
+pub upper_is : (p : ℕ) → p < first_negative → current_with (ltb 0 p) p ≡ current_of p
+unfolding current_of
+upper_is p h = simp (lt-ltb p first_negative h, both)
+
+pub lower_is : (p : ℕ) → first_negative ≤ p → current_with false (pairs - p) ≡ current_of p
+unfolding current_of
+lower_is p h = simp (le-ltb p first_negative h, and_false)
+
 -- ---- there and back
 
 pub pair_fits : (c : Current) → c.magnitude < pairs → signed_pair c < pairs

@@ -15,7 +15,7 @@ use Rattle.refusals.proofs.OrElseLaws.{not_rejected}
 use Rattle.refusals.specs.declared.Refusal as Declared
 use Rattle.sample.specs.Current.{counted}
 use Rattle.sample.specs.Limits.{longest_rest}
-use Rattle.sample.specs.Range.{current, temperature, temperature_refusal, voltage}
+use Rattle.sample.specs.Range.{current, current_in_range, temperature, temperature_in_range, temperature_refusal, voltage, voltage_in_range}
 use Rattle.gauge.specs.Accepted.{accepted}
 use Rattle.gauge.specs.Answer.{Answer, answered, unless_rejected}
 use Rattle.gauge.specs.Calls.{key_answer, rest_answer, rest_refusal, sample_refusal, stored_at, window_answer, write_answer, write_refusal, written}
@@ -60,9 +60,36 @@ write_rejects address value g e = simp e
 pub answered_done : (n : ℕ) (g : Gauge) {next after : Gauge} → n ≡ Refusal.none → after ≡ next → (n ≡ Refusal.none) × (after ≡ (answered n g next).gauge)
 answered_done n g z e = (z, simp z e)
 
+done : (n : ℕ) (before next following : Gauge) → n ≡ 0 → next ≡ following → answer 0 next ≡ answered n before following
+done n before next following z e = simp z (ap (answer 0) e)
+
 -- ---- a window
 
 module _ (g : Gauge) (a v t : ℤ) where
+  pub window_rejected : accepted g ≡ false → answer Refusal.rejected g ≡ window_answer g a v t
+  unfolding window_answer
+  window_rejected p = simp p
+
+  pub window_current : accepted g ≡ true → current_in_range a ≡ false → answer Refusal.current_range g ≡ window_answer g a v t
+  unfolding window_answer
+  window_current p q = simp (p, q)
+
+  pub window_voltage : accepted g ≡ true → current_in_range a ≡ true → voltage_in_range v ≡ false
+      → answer Refusal.voltage_range g ≡ window_answer g a v t
+  unfolding window_answer
+  window_voltage p q r = simp (p, q, r)
+
+  pub window_temperature : accepted g ≡ true → current_in_range a ≡ true → voltage_in_range v ≡ true → temperature_in_range t ≡ false
+      → answer Refusal.temperature_range g ≡ window_answer g a v t
+  unfolding window_answer
+  window_temperature p q r s = simp (p, q, r, s)
+
+  pub window_done : {next : Gauge} → accepted g ≡ true → current_in_range a ≡ true → voltage_in_range v ≡ true → temperature_in_range t ≡ true
+      → next ≡ window (counted (dmf g.settings) (current a)) (voltage v) (temperature t) g
+      → answer 0 next ≡ window_answer g a v t
+  unfolding window_answer
+  window_done p q r s e = done _ _ _ _ (simp (p, q, r, s)) e
+
   pub window_number : (window_answer g a v t).number ≡ or_else (unless_rejected g Refusal.none) (sample_refusal a v t)
   unfolding window_answer
   window_number = tested_first g (sample_refusal a v t)
@@ -76,6 +103,20 @@ module _ (g : Gauge) (a v t : ℤ) where
 -- ---- a rest
 
 module _ (g : Gauge) (n : ℕ) (t : ℤ) where
+  pub rest_rejected : accepted g ≡ false → answer Refusal.rejected g ≡ rest_answer g n t
+  unfolding rest_answer
+  rest_rejected p = simp p
+
+  pub rest_temperature : accepted g ≡ true → ltb 0 n ≡ true → leb n longest_rest ≡ true → temperature_in_range t ≡ false
+      → answer Refusal.temperature_range g ≡ rest_answer g n t
+  unfolding rest_answer
+  rest_temperature p q r s = simp (p, q, r, s)
+
+  pub rest_done : {next : Gauge} → accepted g ≡ true → ltb 0 n ≡ true → leb n longest_rest ≡ true → temperature_in_range t ≡ true
+      → next ≡ rest n (temperature t) g → answer 0 next ≡ rest_answer g n t
+  unfolding rest_answer
+  rest_done p q r s e = done _ _ _ _ (simp (p, q, r, s)) e
+
   pub rest_number : (rest_answer g n t).number ≡ or_else (unless_rejected g Refusal.none) (rest_refusal n t)
   unfolding rest_answer
   rest_number = tested_first g (rest_refusal n t)
@@ -100,6 +141,10 @@ module _ (g : Gauge) (n : ℕ) (t : ℤ) where
 -- ---- a host write
 
 module _ (g : Gauge) (address value : ℕ) where
+  pub write_rejected : accepted g ≡ false → answer Refusal.rejected g ≡ write_answer g address value
+  unfolding write_answer
+  write_rejected p = simp p
+
   pub write_number : (write_answer g address value).number ≡ or_else (unless_rejected g Refusal.none) (write_refusal g.host.mode g.host.ar address value)
   unfolding write_answer
   write_number = tested_first g (write_refusal g.host.mode g.host.ar address value)

@@ -5,3 +5,4 @@ pub mod MeasuredLaws
 pub mod ObeyedKept
 pub mod OpeningLaws
 pub mod TakenLaws
+pub mod WindowLaws

@@ -8,7 +8,7 @@ use crate::window::measured;
 use command::command::decide;
 use configuration::configuration::dmf;
 use refusals::Refusal;
-use sample::range::temperature;
+use sample::range::read_temperature;
 use sample::sample::Sample;
 
 // "A rest may now last 506,250 windows, thirty days" (A6 of paper 02).
@@ -47,7 +47,7 @@ impl Gauge {
         if LONGEST_REST < windows {
             return Err(Refusal::RestLength);
         }
-        let temperature = temperature(t)?;
+        let temperature = read_temperature(t)?;
         let rested = self.rested(windows, temperature);
         Ok(rested)
     }

@@ -10,7 +10,7 @@ use reached::ending::ending_of;
 use reached::full::is_full;
 use reached::reached::{charge_ended, filled_if, flags_ended};
 use refusals::Refusal;
-use sample::range::{current, temperature, voltage};
+use sample::range::{read_current, read_temperature, read_voltage};
 use sample::sample::Sample;
 use standby::standby::averaged;
 
@@ -19,9 +19,9 @@ pub fn measured(a: i32, v: i32, t: i32) -> Result<Sample, Refusal>
     ensures { Answers result (sample_refusal a v t) (Spec.measured a v t) }
 {
     Ok(Sample {
-        current: current(a)?,
-        voltage: voltage(v)?,
-        temperature: temperature(t)?,
+        current: read_current(a)?,
+        voltage: read_voltage(v)?,
+        temperature: read_temperature(t)?,
     })
 }
 

@@ -6,11 +6,12 @@ use Prim.Native.Nat.{ℕ}
 use lib.Dec.{eqb}
 use lib.IntN.{ℤ}
 use lib.ListN.{length}
+use Rattle.every_form.specs.EveryForm.{load_answer}
 use Rattle.form.specs.Form.{saved_length}
 use Rattle.gauge.specs.Answer.{Answer}
 use Rattle.refusals.specs.Refusal as Refusal
 use Rattle.saved.specs.Save.{put_after, saved_bytes}
-use Rattle.handset.specs.Calls.{call_bytes, call_number, rest_call, window_call}
+use Rattle.handset.specs.Calls.{call_bytes, call_number, convert_bytes, convert_number, rest_call, window_call}
 use Rattle.handset.specs.Keep.{kept_bytes, kept_number}
 
 -- ---- equal arguments
@@ -39,3 +40,12 @@ kept_is answer saved = go (eqb answer.number 0) (eqb (length saved) saved_length
     go true true e = refl
     go true false e = refl
     go false u e = simp e
+
+-- a conversion
+pub converts : (old saved : List ℕ) {answer : Answer} {r : ℕ} {after : List ℕ} → answer ≡ load_answer old → r ≡ kept_number answer (length saved)
+    → after ≡ kept_bytes answer saved → (r ≡ convert_number old (length saved)) × (after ≡ convert_bytes old saved)
+unfolding kept_number convert_number convert_bytes
+converts old saved a p q = (
+  p ∙ ap (λ (x : Answer). kept_number x (length saved)) a,
+  q ∙ ap (λ (x : Answer). kept_bytes x saved) a ∙ kept_is (load_answer old) saved,
+)

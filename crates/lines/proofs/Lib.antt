@@ -3,4 +3,5 @@ pub mod LineLaws
 pub mod NumberLaws
 pub mod PutLaws
 pub mod RoundTripLaws
+pub mod SignedLaws
 pub mod TextLaws

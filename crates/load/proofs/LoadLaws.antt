@@ -1,6 +1,6 @@
 -- What bytes of the newest form are read as, and the tests that bytes of a form pass, in their order: stated of plain bytes. Assumes nothing.
 use mathlib.Core.Bool.{Bool, true, false, ◌&&◌, cond}
-use mathlib.Core.List.{List}
+use mathlib.Core.List.{List, []}
 use mathlib.Core.Path.{◌≡◌, refl, sym, ap, ◌∙◌}
 use Prim.Native.Nat.{ℕ}
 use native.Mathlib.Omega.{arith}
@@ -12,6 +12,7 @@ use Rattle.form.specs.Form.{Current, Flags, Form, FormNumber, length_of, newest,
 use Rattle.form.specs.Signed.{current_of}
 use Rattle.gauge.specs.Accepted.{accepted}
 use Rattle.gauge.specs.Answer.{Answer}
+use Rattle.gauge.specs.Opening.{open_answer, open_refusal}
 use Rattle.gauge.specs.declared.state.Gauge.{Gauge}
 use Rattle.numbers.proofs.BoolLaws.{and_left, and_right}
 use Rattle.refusals.specs.Refusal as Refusal
@@ -85,6 +86,11 @@ module _ (form : Form) (bytes : List ℕ) where
           let n : ◌≡◌ {A = ℕ} 14 0 = ap (λ (x : Answer). x.number) (sym is) ∙ z in
           let no : ⊥ = omega arith in
           absurd no
+
+-- the gauge of an opening that was refused for its length
+pub rejected_is : {a : Answer} → a ≡ open_answer [] → record { number = Refusal.rejected; gauge = a.gauge } ≡ rejected_answer
+unfolding open_answer open_refusal rejected_answer
+rejected_is e = ap (λ (x : Answer). record { number = Refusal.rejected; gauge = x.gauge }) e
 
 -- ---- what bytes in a form are
 

@@ -85,11 +85,17 @@ pub fn tested(bytes: &[u8]) -> Result<(), Refusal>
     Err(Refusal::Rejected)
 }
 
-// The gauge that bytes of the newest form hold, or 14.
-#[tactic(auto, using(crate::proofs::LoadLaws::gauge_loaded))]
+// The gauge that bytes of the newest form hold, or 14: it is read once.
+#[tactic(auto, using(crate::proofs::LoadLaws::unfit_answer, crate::proofs::LoadLaws::unaccepted_answer, crate::proofs::LoadLaws::passed_answer, crate::proofs::LoadLaws::gauge_loaded))]
 pub fn load_newest(bytes: &[u8]) -> Result<Gauge, Refusal>
     ensures { Answers result (Spec.answer_in newest bytes.now).number (Spec.answer_in newest bytes.now).gauge }
 {
-    tested(bytes)?;
-    Ok(decoded(bytes))
+    if !form_fits(bytes) {
+        return Err(Refusal::Rejected);
+    }
+    let gauge = decoded(bytes);
+    if !gauge.accepted() {
+        return Err(Refusal::Rejected);
+    }
+    Ok(gauge)
 }

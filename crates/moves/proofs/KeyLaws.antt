@@ -7,23 +7,61 @@ use Rattle.std.specs.Prelude.{Ok, Err}
 use Rattle.command.specs.Command.{Decision, decision_number}
 use Rattle.command.specs.declared.command.Command.{Command}
 use Rattle.command.specs.declared.command.Command.TheVariants.{Reset, Setting}
+use Rattle.charge.specs.Obeyed.{charge_obeyed}
+use Rattle.charge.specs.declared.charge.Charge.{Charge}
+use Rattle.command.specs.declared.command.Reset as Other
+use Rattle.command.specs.declared.command.Setting as Kind
+use Rattle.configuration.specs.Configuration.{s0}
+use Rattle.configuration.specs.Terms.{terms_of}
+use Rattle.configuration.specs.declared.settings.Settings.{Settings}
 use Rattle.counters.specs.Counters.{counters_obeyed}
+use Rattle.counters.specs.declared.counters.Counters.{Counters}
+use Rattle.flags.specs.Flags.{flags_obeyed}
+use Rattle.flags.specs.declared.flags.Flags.{Flags}
 use Rattle.form.specs.Form.{newest}
 use Rattle.gauge.specs.Answer.{Answer}
 use Rattle.gauge.specs.Calls.{write_answer}
 use Rattle.gauge.specs.Obey.{obeyed}
 use Rattle.gauge.proofs.CallLaws.{key_obeyed, key_refused, write_key}
+use Rattle.host.specs.Host.{host_obeyed}
+use Rattle.host.specs.declared.host.Host.{Host}
 use Rattle.load.specs.Load.{answer_in, decoded_gauge}
 use Rattle.refusals.specs.Refusal as Refusal
 use Rattle.refusals.specs.declared.Refusal as Declared
 use Rattle.sample.specs.Sample.{sample_obeyed}
+use Rattle.sample.specs.declared.sample.Sample.{Sample}
 use Rattle.saved.specs.Call.{call_bytes, call_number}
 use Rattle.saved.specs.Save.{saved_bytes}
-use Rattle.saved.specs.Put.{parts_put}
+use Rattle.saved.specs.Put.{charge_put, counters_put, flags_put, host_put, parts_put, sample_put, standby_put}
 use Rattle.standby.specs.Standby.{standby_obeyed}
 use Rattle.moves.proofs.BytesLaws.{own_bytes, parts_put_lem, setting_put_lem}
 use Rattle.moves.proofs.CallLaws.{moves, passed_accepted, passed_fits, refuses}
 use Rattle.moves.specs.Key.{decided, decided_put, key_bytes, key_number, obeyed_put, setting_put}
+
+-- ---- a command
+
+module _ (bytes : List ℕ) where
+  module _ (setting : Kind.Setting) where
+    pub setting_obeyed : {settings : Settings} {h k : Host} {s : Sample} {x y : Charge} {f j : Flags} {b1 b2 b3 : List ℕ}
+        → settings ≡ (decoded_gauge bytes).settings → h ≡ (decoded_gauge bytes).host → s ≡ (decoded_gauge bytes).sample → x ≡ (decoded_gauge bytes).charge
+        → y ≡ charge_obeyed (Setting setting) (terms_of settings) h.ar x → f ≡ (decoded_gauge bytes).flags → j ≡ flags_obeyed (Setting setting) f
+        → k ≡ host_obeyed (Setting setting) (terms_of settings) h → b1 ≡ charge_put y bytes → b2 ≡ host_put k b1
+        → b3 ≡ flags_put s.current.charging y.run.vdq j b2 → b3 ≡ setting_put (obeyed (Setting setting) (decoded_gauge bytes)) bytes
+    unfolding obeyed sample_obeyed
+    setting_obeyed ps ph pm px py pf pj pk p1 p2 p3 = cc
+
+  module _ (reset : Other.Reset) where
+    pub reset_obeyed : {settings : Settings} {h k : Host} {x y : Charge} {s u : Sample} {i l : ℕ} {f j : Flags} {m o : Counters} {b1 b2 b3 b4 b5 b6 : List ℕ}
+        → settings ≡ (decoded_gauge bytes).settings → h ≡ (decoded_gauge bytes).host → x ≡ (decoded_gauge bytes).charge
+        → y ≡ charge_obeyed (Reset reset) (terms_of settings) h.ar x → s ≡ (decoded_gauge bytes).sample → u ≡ sample_obeyed (Reset reset) s
+        → i ≡ (decoded_gauge bytes).standby → l ≡ standby_obeyed (Reset reset) (s0 settings) i → f ≡ (decoded_gauge bytes).flags
+        → j ≡ flags_obeyed (Reset reset) f → k ≡ host_obeyed (Reset reset) (terms_of settings) h → m ≡ (decoded_gauge bytes).counters
+        → o ≡ counters_obeyed (Reset reset) m → b1 ≡ charge_put y bytes → b2 ≡ standby_put l b1 → b3 ≡ sample_put u b2 → b4 ≡ host_put k b3
+        → b5 ≡ flags_put u.current.charging y.run.vdq j b4 → b6 ≡ counters_put o b5 → b6 ≡ parts_put (obeyed (Reset reset) (decoded_gauge bytes)) bytes
+    unfolding obeyed
+    reset_obeyed ps ph px py pm pu pi pl pf pj pk pc po p1 p2 p3 p4 p5 p6 = cc
+
+-- ---- a key
 
 module _ (bytes : List ℕ) (small : (k : ℕ) → get_or bytes k 0 < 256) (passed : Refusal.none ≡ (answer_in newest bytes).number) (key : ℕ) where
   obeyed_saved : (command : Command) → obeyed_put command (obeyed command (decoded_gauge bytes)) bytes ≡ saved_bytes (obeyed command (decoded_gauge bytes))

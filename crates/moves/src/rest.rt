@@ -14,7 +14,7 @@ use grains::leak::leak_rate;
 use load::load::tested;
 use load::parts::{loaded_charge, loaded_counters, loaded_flags, loaded_sample, loaded_settings};
 use refusals::Refusal;
-use sample::range::temperature;
+use sample::range::read_temperature;
 use saved::parts::{put_charge, put_counters, put_flags, put_sample};
 
 fn rested(saved: &mut [u8], windows: u32, temperature: u16)
@@ -45,7 +45,7 @@ pub fn rest(saved: &mut [u8], windows: u32, t: i32) -> Result<(), Refusal>
     if LONGEST_REST < windows {
         return Err(Refusal::RestLength);
     }
-    let temperature = temperature(t)?;
+    let temperature = read_temperature(t)?;
     rested(saved, windows, temperature);
     Ok(())
 }

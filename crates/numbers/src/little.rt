@@ -128,21 +128,21 @@ pub fn number_at<const N: usize, T: Little<N>>(bytes: &[u8], place: u16) -> T
 pub fn two_at(bytes: &[u8], place: u16) -> u16
     ensures { result ≡ Spec.number_at 2 place bytes.now }
 {
-    number_at(bytes, place)
+    number_at::<2, u16>(bytes, place)
 }
 
 // The four bytes at a place, as a number.
 pub fn four_at(bytes: &[u8], place: u16) -> u32
     ensures { result ≡ Spec.number_at 4 place bytes.now }
 {
-    number_at(bytes, place)
+    number_at::<4, u32>(bytes, place)
 }
 
 // The eight bytes at a place, as a number.
 pub fn eight_at(bytes: &[u8], place: u16) -> u64
     ensures { result ≡ Spec.number_at 8 place bytes.now }
 {
-    number_at(bytes, place)
+    number_at::<8, u64>(bytes, place)
 }
 
 // The ten bytes at a place.

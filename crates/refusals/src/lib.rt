@@ -51,7 +51,7 @@ impl Refusal {
 }
 
 // "success is 0".
-const NONE: u32 = 0;
+pub const NONE: u32 = 0;
 
 // The number that C is handed for an outcome: 0, or that of its refusal.
 pub fn number_of(outcome: Result<(), Refusal>) -> u32

@@ -73,6 +73,11 @@ saved_loaded bytes small f = sym (ap saved_bytes (newest_loaded bytes)) ∙ save
 -- ---- in the calls' terms
 
 module _ (g : Gauge) (b : List ℕ) (l : length b ≡ saved_length) where
+  -- a buffer of the form's length leaves the test of the gauge alone
+  pub reloaded_refused : {n : ℕ} → n ≡ save_refusal g (length b) → answer n g ≡ reloaded_answer g
+  unfolding save_refusal reloaded_answer
+  reloaded_refused e = ap (λ (n : ℕ). answer n g) (e ∙ simp (eq-eqb (length b) saved_length l))
+
   pub reloaded_done : {after : List ℕ} → FieldsFit g → Refusal.none ≡ save_refusal g (length b) → after ≡ buffer_after g b
       → load_answer after ≡ reloaded_answer g
   unfolding save_refusal reloaded_answer buffer_after

@@ -1,4 +1,4 @@
-// The input of a window: each number handed in is read as its value, or refused where it is out of range.
+// The input of a window: the value of each number handed in, and that value or the refusal of a number that is out of range.
 ghost use Rattle.std.specs.Prelude.{◌≡◌, ◌<◌};
 ghost use Rattle.refusals.specs.Refusal.{Answers};
 ghost use Rattle.sample.specs.Range as Spec;
@@ -11,7 +11,7 @@ use numbers::signed::take_apart;
 use refusals::Refusal;
 
 // a by direction and magnitude: "current a (units, positive charging, −28,011 to 28,011)".
-pub fn current(a: i32) -> Result<Current, Refusal>
+pub fn read_current(a: i32) -> Result<Current, Refusal>
     ensures { Answers result (Spec.current_refusal a) (Spec.current a) }
 {
     let apart = take_apart(a);
@@ -24,6 +24,16 @@ pub fn current(a: i32) -> Result<Current, Refusal>
         charging,
         magnitude,
     })
+}
+
+// a by direction and magnitude, none out of range.
+pub fn current(a: i32) -> Current
+    ensures { result ≡ Spec.current a }
+{
+    match read_current(a) {
+        Ok(current) => current,
+        Err(_) => Current::none(),
+    }
 }
 
 // From a least above 0 to the most, both included.
@@ -41,15 +51,31 @@ fn between(least: u16, most: u16, number: i32) -> Option<u16>
 }
 
 // "voltage v (2,600 to 4,500 mV)".
-pub fn voltage(v: i32) -> Result<u16, Refusal>
+pub fn read_voltage(v: i32) -> Result<u16, Refusal>
     ensures { Answers result (Spec.voltage_refusal v) (Spec.voltage v) }
 {
     between(LEAST_VOLTAGE, MOST_VOLTAGE, v).ok_or(Refusal::VoltageRange)
 }
 
+// Its value, 0 out of range.
+#[tactic(auto, unfolding(crate::specs::Range::read_between, crate::specs::Range::value_between))]
+pub fn voltage(v: i32) -> u16
+    ensures { result ≡ Spec.voltage v }
+{
+    between(LEAST_VOLTAGE, MOST_VOLTAGE, v).unwrap_or(0)
+}
+
 // "temperature t (1,012 to 1,372 quarter kelvins)".
-pub fn temperature(t: i32) -> Result<u16, Refusal>
+pub fn read_temperature(t: i32) -> Result<u16, Refusal>
     ensures { Answers result (Spec.temperature_refusal t) (Spec.temperature t) }
 {
     between(LEAST_TEMPERATURE, MOST_TEMPERATURE, t).ok_or(Refusal::TemperatureRange)
+}
+
+// Its value, 0 out of range.
+#[tactic(auto, unfolding(crate::specs::Range::read_between, crate::specs::Range::value_between))]
+pub fn temperature(t: i32) -> u16
+    ensures { result ≡ Spec.temperature t }
+{
+    between(LEAST_TEMPERATURE, MOST_TEMPERATURE, t).unwrap_or(0)
 }

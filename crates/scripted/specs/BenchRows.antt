@@ -1,18 +1,17 @@
 -- Parts of the bench program: what it prints of a gauge, where a text is put, and where it has ended. Each number by hand, from the papers and
 -- from the bytes of `Packs`. Definitions only; assumes nothing.
-use Rattle.std.specs.Prelude.{Some, None, true, false, [], ◌∷◌, ◌≡◌, map, replicate}
+use Rattle.std.specs.Prelude.{Some, None, true, false, [], ◌∷◌, ◌≡◌, replicate}
 use Rattle.bench_feed.specs.Feed as Bench
 use Rattle.bench_feed.specs.Feed.{is_ended}
 use Rattle.bench_feed.specs.First.{names_fed}
 use Rattle.bench_feed.specs.Input.{fed_all}
+use Rattle.bench_output.specs.Output.{text_of}
 use Rattle.bench_output.specs.declared.output.Output.TheVariants as Output
-use Rattle.bench_window.specs.Shown.{in_order, registers_output}
+use Rattle.bench_window.specs.Shown.{registers_output}
 use Rattle.gauge.specs.declared.state.Gauge.{Gauge}
 use Rattle.lines.specs.Put.{place_after, put_at}
 use Rattle.lines.specs.Word.{grown}
 use Rattle.load.specs.Load.{rejected_answer}
-use Rattle.refusals.specs.Refusal.{number}
-use Rattle.refusals.specs.declared.Refusal.TheVariants.{Rejected}
 use Rattle.scripted.specs.Packs.{kept_discharging}
 use Rattle.scripted.specs.Script.{started}
 use Rattle.scripted.specs.TextRows.{differing_input, paper_input}
@@ -23,10 +22,11 @@ refused = rejected_answer.gauge
 
 pub record BenchRows : Type 0 where
   -- what the bench program prints of a rejected gauge, and of one with LMD 0xA12D: NAC 9,266, 100 × 9,266 / 41,261 = 22.5
-  pub shown_14 : registers_output refused ≡ Output.Refused Rejected
-  -- the refusals in the order of their numbers
-  pub refused_in_order : map number in_order ≡ 1 ∷ 2 ∷ 3 ∷ 4 ∷ 5 ∷ 6 ∷ 7 ∷ 8 ∷ 9 ∷ 10 ∷ 11 ∷ 12 ∷ 13 ∷ 14 ∷ 15 ∷ 16 ∷ []
+  pub shown_14 : registers_output refused ≡ Output.Refused 14
   pub shown_22 : registers_output (started kept_discharging) ≡ Output.Registers 9_266 41_261 22 0x06
+  -- the text of numbers that no refusal has: "refused 0" and "refused 17", each with a newline
+  pub refused_0 : text_of (Some (Output.Refused 0)) ≡ 114 ∷ 101 ∷ 102 ∷ 117 ∷ 115 ∷ 101 ∷ 100 ∷ 32 ∷ 48 ∷ 10 ∷ []
+  pub refused_17 : text_of (Some (Output.Refused 17)) ≡ 114 ∷ 101 ∷ 102 ∷ 117 ∷ 115 ∷ 101 ∷ 100 ∷ 32 ∷ 49 ∷ 55 ∷ 10 ∷ []
   -- a text of two bytes with room for three asked, at the last place that has it and one past it
   pub put_last : put_at 3 (1 ∷ 2 ∷ []) (replicate 5 7) 2 ≡ 7 ∷ 7 ∷ 1 ∷ 2 ∷ 7 ∷ []
   pub put_past : put_at 3 (1 ∷ 2 ∷ []) (replicate 5 7) 3 ≡ replicate 5 7

@@ -1,9 +1,10 @@
 -- What saving and loading are put together from: the parts of the bytes, the form that a first byte tells, older bytes in the places of the
 -- newest. Each number by hand, from the papers and from the bytes of `Packs`. Definitions only; assumes nothing.
-use Rattle.std.specs.Prelude.{Bool, true, false, ◌&&◌, List, [], ◌∷◌, ◌++◌, ◌≡◌, ℕ, zero, suc, ◌+◌, ◌*◌, eqb, replicate, set, take}
+use Rattle.std.specs.Prelude.{Bool, true, false, ◌&&◌, List, [], ◌∷◌, ◌++◌, ◌≡◌, ℕ, zero, suc, ◌+◌, ◌*◌, eqb, map, replicate, set, take}
 use Rattle.configuration.specs.Settings.{opened_settings}
 use Rattle.drive.specs.OlderForms.{counters_of, gauge_of41}
-use Rattle.every_form.specs.EveryForm.{expected_by, load_answer}
+use Rattle.every_form.specs.EveryForm.{expected_by, form_as, load_answer}
+use Rattle.every_form.specs.declared.every_form.SavedForm.TheVariants.{One, Two, Three, Four, Newest}
 use Rattle.form.specs.Form.{Dcr, Field, Held, Rests, form1, form4, form_of, name_number, newest, of_number, place_of, same_name, width_of}
 use Rattle.form.specs.InNewest.{in_newest}
 use Rattle.form.specs.Signed as Pair
@@ -60,6 +61,7 @@ pub record SavedRows : Type 0 where
   pub put_flags_54 : flags_put false true (started kept_charging).flags (replicate 54 7) ≡ replicate 54 7
   pub put_counters_56 : counters_put (started kept_charging).counters (replicate 56 7) ≡ replicate 56 7
   -- loading: the form that a first byte tells, SI of form 1 with S0 310, bytes of another length
+  pub forms_as : map (λ f. (form_as f).number) (One ∷ Two ∷ Three ∷ Four ∷ Newest ∷ []) ≡ 1 ∷ 2 ∷ 3 ∷ 4 ∷ 5 ∷ []
   pub expected_1 : expected_by 1 ≡ record { number = 1; length = 41 }
   pub expected_2 : expected_by 2 ≡ record { number = 2; length = 41 }
   pub expected_3 : expected_by 3 ≡ record { number = 3; length = 43 }

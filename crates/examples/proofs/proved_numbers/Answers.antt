@@ -13,9 +13,12 @@ returns c =
     record {
       first_eight = refl;
       last_eight = refl;
+      left_handed = refl;
+      left_refused = refl;
       number_1 = refl;
       number_2 = refl;
       opens = refl;
+      three_measured = refl;
       number_3 = refl;
       number_3_drawn = refl;
       most_drawn = refl;

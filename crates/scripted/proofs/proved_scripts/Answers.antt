@@ -8,7 +8,7 @@ use Rattle.bench_feed.specs.Listed.{fed_listed, line_output}
 use Rattle.bench_feed.specs.Printed.{lines_printed, list_printed, printed, same_bytes}
 use Rattle.bench_output.specs.Output.{refused_text, registers_text, text_of}
 use Rattle.bench_window.specs.Answer.{answer_output, line_answered}
-use Rattle.bench_window.specs.Shown.{refused, registers_output}
+use Rattle.bench_window.specs.Shown.{registers_output}
 use Rattle.charge.specs.Charge.{charge_accepted, emptied, filled, held_moved, leaked, moved, opened_charge, run_moved, taught, without_run}
 use Rattle.charge.specs.Obeyed.{charge_obeyed, written_lmd, written_nac}
 use Rattle.charge.specs.Rest.{rested, rested_once}
@@ -89,7 +89,7 @@ use Rattle.scripted.proofs.proved_scripts.Goals as goal
 
 pub returns : goal.returns
 unfolding ended_at Feed.fed fed_at is_ended last_output last_output_at after_first fed_first first_output names_fed fed_all printed_at printed_from printed_of
-    fed_listed line_output lines_printed list_printed printed same_bytes refused_text registers_text text_of answer_output line_answered refused registers_output
+    fed_listed line_output lines_printed list_printed printed same_bytes refused_text registers_text text_of answer_output line_answered registers_output
     charge_accepted emptied filled held_moved leaked moved opened_charge run_moved taught without_run charge_obeyed written_lmd written_nac rested
     rested_once leaked_at_once command_of decide decide_by highest_command_bit adcgn dcmp dt minutes offset_term rate_term dcmp_unaged dcomp_taken opened_mode
     settings_accepted counters_accepted counters_moved counters_obeyed counters_rested opened_counters cycles_accepted cycles_moved cyct_after drain_with
@@ -481,6 +481,7 @@ returns c =
         put_host_56 = refl;
         put_flags_54 = refl;
         put_counters_56 = refl;
+        forms_as = refl;
         expected_1 = refl;
         expected_2 = refl;
         expected_3 = refl;
@@ -609,8 +610,9 @@ returns c =
       };
       bench = record {
         shown_14 = refl;
-        refused_in_order = refl;
         shown_22 = refl;
+        refused_0 = refl;
+        refused_17 = refl;
         put_last = refl;
         put_past = refl;
         place_last = refl;

@@ -11,4 +11,6 @@ returns-in-Ok c =
 pub returns-in-Err : goal.returns-in-Err
 returns-in-Err c =
     let s = c.in-Some in
-    was_refused _ s.current s.voltage s.temperature (record { sfits = omega arith }) (record { sfits = omega arith }) (record { sfits = omega arith }) _ s.is _ c.in-Err.ensures
+    let answered =
+    was_refused _ s.current s.voltage s.temperature (record { sfits = omega arith }) (record { sfits = omega arith }) (record { sfits = omega arith }) _ s.is _ c.in-Err.ensures in
+    cc

@@ -8,8 +8,8 @@ use Rattle.sample.specs.Range.{current_in_range}
 use Rattle.numbers.specs.Signed.{magnitude, taken_apart}
 use Rattle.numbers.specs.declared.signed.Signed.{Signed}
 use Rattle.numbers.proofs.SignedLaws.{narrow}
-use Rattle.sample.proofs.range.current.Goals as goal
-use Rattle.sample.proofs.range.current.Goals.{After-take_apart-apart}
+use Rattle.sample.proofs.range.read_current.Goals as goal
+use Rattle.sample.proofs.range.read_current.Goals.{After-take_apart-apart}
 
 apart : (c : After-take_apart-apart) → c.take_apart-apart.result ≡ taken_apart c.args.a
 apart c = c.take_apart-apart.ensures ∙ ap taken_apart (narrow _ c.ranges.a)
